@@ -27,7 +27,7 @@ PACKAGES = {"gemmi": "python3-gemmi", "numpy": "python3-numpy", "spglib": "pytho
             "ase": "python3-ase", "pymatgen": "python3-pymatgen", "networkx": "python3-networkx",
             "pandas": "python3-pandas", "nbconvert": "python3-nbconvert", "ipykernel": "python3-ipykernel",
             "mypy": "mypy", "pip": "python3-pip", "setuptools": "python3-setuptools", "wheel": "python3-wheel", "venv": "python3-venv",
-            "parallel": "parallel", "slurmctld": "slurm-wlm",
+            "parallel": "parallel", "time": "time", "slurmctld": "slurm-wlm",
             "munged": "munge", "rsvg-convert": "librsvg2-bin", "chromium": "chromium",
             "flask": "python3-flask", "tqdm": "python3-tqdm", "werkzeug": "python3-werkzeug", "selenium": "python3-selenium",
             "chromedriver": "chromium-driver", "mandoc": "mandoc", "lintian": "lintian", "debootstrap": "debootstrap",

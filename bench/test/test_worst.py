@@ -4,19 +4,23 @@ from __future__ import annotations
 
 import re
 
-from testing import PROGRAM, TOOLS, TOP, FolderTest, need_program, run
+from testing import PROGRAM, TOOLS, TOP, FolderTest, need_commands, need_program, run
 
 WORST = TOP / "bench/worst"
 COMMANDS = re.findall(r"^(?:command_table=')?([a-z]+)\|[^|\n]*\|", (TOOLS / "words.sh").read_text(), re.MULTILINE)
 
 
 class Worst(FolderTest):
+    def setUp(self) -> None:
+        super().setUp()
+        need_commands("time")
+
     def test_each_command_has_a_row(self) -> None:
         program = self.folder / "program"
         program.write_text(f"#!/bin/sh\necho \"$@\" >>'{self.folder}/asked'\necho report\n")
         program.chmod(0o755)
         rows = run(TOP / "bench/run", "--worst", 1, NET_TOOL=str(program)).stdout.decode().splitlines()[2:]
-        found = re.findall(r"^\| `([a-z]+)` \|[^|]+\| \d+ \| [\d.]+ \| \d+ \|$", "\n".join(rows), re.MULTILINE)
+        found = re.findall(r"^\| `([a-z]+)` \|[^|]+\| \d+ \| [\d.]+ \| \d+ \| [\d.]+ \|$", "\n".join(rows), re.MULTILINE)
         self.assertEqual(len(found), len(rows))
         self.assertEqual(sorted(set(found)), sorted(COMMANDS))
         asked = (self.folder / "asked").read_text().splitlines()

@@ -33,7 +33,8 @@ share=$to/share/net_tool
 commands="tools/cif2cgd/cif2cgd tools/cgd2net/cgd2net tools/cgd2net/make_archives archives/take_rcsr
 tools/pictures/draw_nets tools/pictures/net_gallery tools/batch/split_nets tools/batch/key_piece tools/batch/net_rows
 tools/batch/net_groups tools/batch/net_names tools/batch/name_nets tools/batch/accepted_nets tools/batch/archive_nets
-tools/batch/archive_files tools/batch/component_nets tools/batch/wide_archive tools/batch/net_table tools/desk/net_desk"
+tools/batch/archive_files tools/batch/component_nets tools/batch/wide_archive tools/batch/net_table
+tools/batch/net_topology tools/desk/net_desk"
 
 . "$top/tools/words.sh"
 install -D -m 755 -- "$program" "$to/lib/net_tool/net_tool"

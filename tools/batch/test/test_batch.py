@@ -95,6 +95,20 @@ class WithoutKey(FolderTest):
         self.file = self.folder / "nets.cgd"
         self.file.write_bytes(SQL + BRIDGED + ROW + BRIDGED + BRIDGED.replace(b"NAME bridged\n", b""))
 
+    def test_what_databases_list(self):
+        (self.folder / "nets.cgd").write_bytes(SQL + ROW + BRIDGED)
+        done = run(BATCH / "net_topology", self.folder, status=1)
+        file = str(self.folder / "nets.cgd")
+        rows = [line.split("\t") for line in done.stdout.decode().splitlines()]
+        self.assertEqual(rows, [["source", "name", "point_symbol", "vertex_symbols", "td10", "transitivity"],
+                                [file, "sql", "4^4.6^2", "4.4.4.4.*.*", "221.00", "11"],
+                                [file, "bridged", rows[2][2], rows[2][3], rows[2][4], ""]])
+        self.assertIn(f"net_topology: {file}: row: the net is not connected".encode(), done.stderr)
+        found = json.loads(run(BATCH / "net_topology", "--json", file, status=1).stdout.splitlines()[0])
+        self.assertEqual((found["name"], found["symmetries"], found["kinds"][0]["sequence"][:3]), ("sql", 8, [4, 8, 12]))
+        told = run(BATCH / "net_topology", self.folder / "absent", status=1)
+        self.assertIn(b"No such file", told.stderr)
+
     def test_an_archive_of_nets_without_a_key(self):
         told = run(BATCH / "wide_archive", self.folder / "mine", self.file, status=1).stderr.decode().splitlines()
         self.assertEqual(told, ["wide_archive: sql: it has a key", "wide_archive: row: refused 2 Degenerate q=0 c=0 1 h=0",
@@ -109,6 +123,10 @@ class WithoutKey(FolderTest):
         named = run(BATCH / "name_nets", self.file, self.folder, status=1).stdout
         self.assertEqual(named, b"2\tbridged\tbridged\tverified map\n4\tbridged\tbridged\tverified map\n"
                                 b"5\t\tbridged\tverified map\n")
+        self.file.write_bytes(BRIDGED)  # which has a name, though no key
+        done = run(BATCH / "name_nets", self.file, self.folder)
+        self.assertEqual(done.stdout, b"1\tbridged\tbridged\tverified map\n")
+        self.assertIn(b"1 of 1 nets have no key, 0 of them no name either", done.stderr)
         self.assertEqual(run(BATCH / "archive_files", "--without-key", self.folder).stdout.decode().split(),
                          [str(self.folder / "again.index"), str(index)])
         self.assertEqual(run(BATCH / "archive_files", self.folder).stdout, b"")

@@ -2,6 +2,7 @@
 
 The program stands here by a script that gives each block one key, and waits at a net that is called slow."""
 
+import gzip
 import io
 import os
 from pathlib import Path
@@ -37,6 +38,12 @@ CRYSTAL = "CRYSTAL\n  NAME crystal\n  GROUP p4mm\n  CELL 1 1 90\n  NODE V 4 0 0\
 GRAPH = "# a comment\nPERIODIC_GRAPH\nNAME {0}\nEDGES\n1 1 1 0\n1 1 0 1\nEND\n"
 WRONG = "CRYSTAL\n  NAME wrong\nEND\n"
 MIXED = ITEM + CRYSTAL + GRAPH.format("graph") + ITEM.replace("item", "other")
+SILICON = "Si\n5.43\n0 0.5 0.5\n0.5 0 0.5\n0.5 0.5 0\nSi\n2\nDirect\n0 0 0\n0.25 0.25 0.25\n"
+SILICON_XYZ = """2
+Lattice="0 2.715 2.715 2.715 0 2.715 2.715 2.715 0" Properties=species:S:1:pos:R:3 pbc="T T T"
+Si 0 0 0
+Si 1.3575 1.3575 1.3575
+"""
 PLACES = [("item", 1), ("crystal", 6), ("graph", 13), ("other", 19)]
 
 
@@ -87,6 +94,24 @@ class Pieces(FolderTest):
         pieces = self.split((TOP / "examples/quartz.cif").read_text(), name="quartz.cif")
         self.assertEqual([row[2] for row in self.rows(pieces)], ["quartz"])
 
+    def test_structures_of_other_programs_and_packed_files(self):
+        """POSCAR, extended XYZ and CIF, and blocks, as they are and packed by gzip."""
+        texts = {"quartz.cif": ((TOP / "examples/quartz.cif").read_text(), "quartz"), "CONTCAR": (SILICON, "CONTCAR"),
+                 "Si.extxyz": (SILICON_XYZ, "Si"), "nets.cgd": (CRYSTAL + GRAPH.format("graph"), "crystal")}
+        for name, (text, net) in texts.items():
+            for file, content in ((name, text.encode()), (f"{name}.gz", gzip.compress(text.encode()))):
+                (self.folder / file).write_bytes(content)
+                if "Si" in text:
+                    need_modules("ase")
+                self.tool("split_nets", self.folder / file, self.folder / f"{file}.pieces")
+                self.assertEqual(self.rows(self.folder / f"{file}.pieces")[0][2], net, file)
+
+    def test_a_packed_file_that_is_cut(self):
+        (self.folder / "nets.cgd.gz").write_bytes(gzip.compress(MIXED.encode())[:-9])
+        told = self.tool("split_nets", self.folder / "nets.cgd.gz", self.folder / "pieces", status=1).stderr
+        self.assertIn(b"packed by gzip, and damaged", told)
+        self.assertFalse((self.folder / "pieces/index.tsv").exists())
+
     def test_a_block_without_a_net_is_counted_and_told(self):
         pieces = self.split(CRYSTAL + WRONG + GRAPH.format("graph"), status=1)
         self.assertIn('line 7 "wrong": line 7: there are no nodes', self.told)
@@ -102,7 +127,7 @@ class Pieces(FolderTest):
         archive.write_text("net_archive 1\n")
         done = self.tool("name_nets", self.folder / "nets.cgd", archive, status=1)
         self.assertIn(b'net 2, line 7 "wrong": unsupported', done.stderr)
-        self.assertIn(b"1 of 2 nets have no key", done.stderr)
+        self.assertIn(b"1 of 2 nets have no key, 1 of them no name either", done.stderr)
         (self.folder / "nets.cgd").write_text(MIXED)
         self.assertEqual(self.tool("name_nets", self.folder / "nets.cgd", archive).stderr, b"")
 

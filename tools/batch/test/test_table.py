@@ -1,5 +1,6 @@
 """Tables: what net_table writes, that a run that broke off is taken up, and that broken files are told of."""
 
+import gzip
 import json
 import os
 import random
@@ -115,6 +116,18 @@ class Table(FolderTest):
             f"_atom_site_fract_{axis}\n" for axis in "xyz") + atoms)
         self.make("--jobs", 1, status=0)
         self.assertEqual([row["copies"] for row in table_of(self.result)], ["2"])
+
+    def test_a_folder_with_packed_files_and_those_of_other_programs(self):
+        source = self.source = self.folder / "all"
+        source.mkdir()
+        text = BLOCKS[:BLOCKS.index(b"END") + 4]
+        for name, content in (("b.cgd.gz", gzip.compress(text)), ("c.arc.gz", gzip.compress(text)[:-9]), ("d.txt", text),
+                              ("POSCAR", b"nothing\n")):
+            (source / name).write_bytes(content)
+        self.make("--jobs", 1)
+        found = {Path(row["source"]).name: (row["outcome"], row["line"]) for row in table_of(self.result)}
+        self.assertEqual(found, {"POSCAR": ("unreadable", ""), "b.cgd.gz": ("accepted", "2"), "c.arc.gz": ("unreadable", "")})
+        self.assertIn(b"packed by gzip, and damaged", contents(self.result)["refused.tsv"])
 
     def test_a_table_of_blocks(self):
         told = self.make("--jobs", 1).stdout.decode()
@@ -327,7 +340,7 @@ class Plans(FolderTest):
                 self.assertEqual(lengths.get(portion.path, 0), portion.offset)
                 lengths[portion.path] = portion.offset + portion.length
         self.assertEqual(lengths, {str(path): path.stat().st_size for path in self.folder.iterdir()})
-        self.assertEqual({portion.kind for piece in plan.pieces for portion in piece}, {"blocks", "blocks after an item", "structure"})
+        self.assertEqual({portion.kind for piece in plan.pieces for portion in piece}, {"blocks", "blocks after an item", "whole"})
         (self.folder / "plan").write_bytes(plan.content)
         self.assertEqual(read_plan(self.folder / "plan"), plan)
         for content in (b"", b"x", b"[]\n", plan.text.encode(), plan.content.replace(FORM.encode(), b"net_table 1"),

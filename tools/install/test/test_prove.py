@@ -136,7 +136,7 @@ class FirstAnswer(FolderTest):
         for example, name in (("start_lib", "start_lib"), ("start_io", "net_tool")):
             shutil.copytree(examples / example, self.folder / "crates" / name, ignore=shutil.ignore_patterns("BUILD.bazel", "*.md"))
         (self.folder / "crates.txt").write_text("start_lib:\nnet_tool: start_lib\n")
-        for name in ("HANDLES", "TOOLCHAIN", "net_tool", "docs/PERFORMANCE.md", "tools/words.sh", "tools/rt", "tools/prove_crates"):
+        for name in ("HANDLES", "TOOLCHAIN", "net_tool", "tools/crates.tsv", "tools/words.sh", "tools/rt", "tools/prove_crates"):
             (self.folder / name).parent.mkdir(exist_ok=True)
             shutil.copy(TOP / name, self.folder / name)
         done = subprocess.run([self.folder / "net_tool", "key"], input=b"tea 95\n", capture_output=True, check=True)

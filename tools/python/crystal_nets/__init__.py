@@ -41,6 +41,7 @@ side_by_side  work in several processes
 
 The packages under them:
 tables      tables of many nets, which net_table makes; read_table for pandas
+topology    what databases list: point symbols, vertex symbols, density, kinds of vertices and edges
 wide        names of nets that have no key: a search that nobody need trust, with maps that `net_tool verify` takes
 texts       the texts around net_tool: files of nets, reports, rows, archives, the graph of a key
 structures  from structure files to nets, as cif2cgd reads them

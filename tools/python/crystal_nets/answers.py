@@ -9,6 +9,7 @@ from dataclasses import dataclass, field
 from enum import Enum
 from fractions import Fraction
 from functools import cached_property
+from math import nan
 from typing import TYPE_CHECKING, Any, overload
 
 from .errors import PackageMissing, in_one_line
@@ -24,6 +25,8 @@ from .texts.net_text import NetReport, nets_of_report
 if TYPE_CHECKING:
     import networkx
     import pandas
+
+    from .topology import Topology
 
 SHELLS = re.compile(rb"(?m)^shells \d+ ?(.*)$")
 CLASSES = re.compile(rb"(?m)^primitive vertices=(\d+) ")
@@ -221,6 +224,13 @@ class Answer:
         found = DENOMINATOR.search(self.text) if self.key else None
         return int(found[1]) if found else 0
 
+    @cached_property
+    def topology(self) -> Topology | None:
+        """What databases list of the net: point symbols, vertex symbols, density, kinds of vertices and edges. It is computed
+        beside the program when it is asked for, and not proved; None where the net is not connected, or it takes too long."""
+        from .topology import topology_of
+        return topology_of(self.net.graph) if self.dimension else None
+
     @property
     def name(self) -> str:
         """What the net is called where it came from."""
@@ -276,13 +286,16 @@ class Answer:
         """What each vertex stands for: its atoms, their formula and its connectivity."""
         return self.net.units
 
-    def to_dict(self) -> dict[str, Any]:
-        """All of it as JSON has it; `from_dict` makes the answer of it."""
+    def to_dict(self, topology: bool = False) -> dict[str, Any]:
+        """All of it as JSON has it, with `topology` where that is wanted; `from_dict` makes the answer of it."""
         from .json_forms import fields_of_answer
-        return fields_of_answer(self)
+        fields = fields_of_answer(self)
+        if topology:
+            fields["topology"] = self.topology.to_dict() if self.topology else None
+        return fields
 
-    def to_json(self) -> str:
-        return json.dumps(self.to_dict())
+    def to_json(self, topology: bool = False) -> str:
+        return json.dumps(self.to_dict(topology))
 
     @classmethod
     def from_dict(cls, fields: dict[str, Any]) -> Answer:
@@ -333,9 +346,9 @@ class Answers(Sequence[Answer]):
     def __hash__(self) -> int:
         return hash(self._answers)
 
-    def to_json(self) -> str:
+    def to_json(self, topology: bool = False) -> str:
         """A list of what `Answer.to_dict` gives."""
-        return json.dumps([answer.to_dict() for answer in self])
+        return json.dumps([answer.to_dict(topology) for answer in self])
 
     def __repr__(self) -> str:
         with_key = sum(answer.accepted for answer in self)
@@ -346,9 +359,9 @@ class Answers(Sequence[Answer]):
         """Those of nets with a key."""
         return Answers([answer for answer in self if answer.accepted])
 
-    def to_pandas(self) -> pandas.DataFrame:
+    def to_pandas(self, topology: bool = False) -> pandas.DataFrame:
         """A table with a row for each net; `crystal_nets.to_pandas` has the columns."""
-        return to_pandas(self)
+        return to_pandas(self, topology)
 
     def _repr_html_(self) -> str:
         from .drawing import html_of_answers
@@ -357,9 +370,10 @@ class Answers(Sequence[Answer]):
 
 COLUMNS = ("name", "outcome", "names", "symbol", "by", "dimension", "vertices", "edges", "classes", "D0", "copies", "key",
            "sequences", "notes", "doubts", "left_out", "convention", "components", "units")
+OF_TOPOLOGY = ("point_symbol", "vertex_symbols", "td10", "transitivity")
 
 
-def to_pandas(answers: Sequence[Answer]) -> pandas.DataFrame:
+def to_pandas(answers: Sequence[Answer], topology: bool = False) -> pandas.DataFrame:
     """A `pandas.DataFrame` with a row for each answer. The columns:
 
     name, outcome   texts; the outcome is `accepted`, or as `refused 5 Collision`
@@ -375,7 +389,14 @@ def to_pandas(answers: Sequence[Answer]) -> pandas.DataFrame:
     doubts, left_out  those of the notes that are doubts, and on what was left out
     convention      what became the vertices
     components      of the structure, as `1 net in space Zn4O13C24H12, 2 molecules CH4O`
-    units           a tuple of what the vertices stand for, each kind once, as `Zn4O(CO2)6, 6-connected`"""
+    units           a tuple of what the vertices stand for, each kind once, as `Zn4O(CO2)6, 6-connected`
+
+    and, where `topology` is wanted, which takes some hundredths of a second for a net, and more for large ones:
+
+    point_symbol    of the net, as `{4.6^2}2{4^2.6^10.8^3}`
+    vertex_symbols  a tuple of those of the kinds of vertices
+    td10            the topological density
+    transitivity    how many kinds of vertices and of edges there are"""
     try:
         import pandas
     except ImportError:
@@ -385,7 +406,18 @@ def to_pandas(answers: Sequence[Answer]) -> pandas.DataFrame:
              tuple(sorted(set(answer.sequences))), "; ".join(answer.notes), "; ".join(answer.doubts),
              "; ".join(answer.left_out), answer.convention, told_components(answer.components), told_units(answer.units))
             for answer in answers]
-    return pandas.DataFrame(rows, columns=list(COLUMNS))
+    if not topology:
+        return pandas.DataFrame(rows, columns=list(COLUMNS))
+    return pandas.DataFrame([row + listed_of(answer.topology) for row, answer in zip(rows, answers)],
+                            columns=[*COLUMNS, *OF_TOPOLOGY])
+
+
+def listed_of(topology: Topology | None) -> tuple[str, tuple[str, ...], float, str]:
+    """What the columns `OF_TOPOLOGY` have."""
+    if topology is None:
+        return "", (), nan, ""
+    symbols = tuple(kind.vertex_symbol for kind in topology.kinds)
+    return topology.point_symbol, symbols, float(topology.td10), topology.transitivity
 
 
 def told_components(components: Sequence[Component]) -> str:

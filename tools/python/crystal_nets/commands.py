@@ -10,7 +10,7 @@ from typing import NoReturn
 
 HOMES = {"cif2cgd": "structures.command", "cgd2net": "blocks.command", "make_archives": "blocks.collection",
          "draw_nets": "pictures.command", "net_gallery": "pictures.gallery", "net_desk": "desk.command",
-         "net_table": "tables.command",
+         "net_table": "tables.command", "net_topology": "topology.command",
          **{name: f"batch.{name}" for name in ("split_nets", "key_piece", "net_rows", "net_groups", "net_names",
                                                "accepted_nets", "archive_nets", "component_nets", "wide_archive")}}
 # what a command needs before it can say so by itself

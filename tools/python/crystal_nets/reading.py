@@ -87,7 +87,7 @@ def read(source: Any, name: str = "", **options: Unpack[StructureOptions]) -> li
 def _nets_of_text(source: str | bytes | os.PathLike[str], name: str, options: Mapping[str, object]) -> list[Net]:
     """The nets of a text, of a file, or of all files of a folder."""
     if not isinstance(source, bytes) and "\n" not in str(source) and os.path.isdir(source):
-        files = [file for file in sorted(Path(source).iterdir()) if _suffix_of(file.name) in SUFFIXES]
+        files = [file for file in sorted(Path(source).iterdir()) if is_known(file.name)]
         return [net for file in files for net in _nets_of_text(file, "", _options_for(file.name, options))]
     content, file = _content_of(source)
     content, named = unpacked(content, name or file)
@@ -102,6 +102,19 @@ def _nets_of_content(content: bytes, file: str, options: Mapping[str, object]) -
     if holds_structure(content, file):
         return nets_of_cif(content, options, file)
     return _without_options(nets_of_cgd(content), options)
+
+
+def nets_of_file(content: bytes, file: str, options: Mapping[str, object]) -> list[Net]:
+    """The nets of the bytes of a file, packed by gzip or not; the options count where it is a structure. NotANet where it
+    is damaged, or a text of another kind."""
+    content, file = unpacked(content, file)
+    is_one = is_json(content) or holds_structure(content, file)
+    return _nets_of_content(content, file, options if is_one else {})
+
+
+def is_known(file: str) -> bool:
+    """Whether a file of this name is read among those of a folder, packed by gzip or not."""
+    return _suffix_of(file) in SUFFIXES
 
 
 def holds_structure(content: bytes, file: str) -> bool:

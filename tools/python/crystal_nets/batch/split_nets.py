@@ -2,31 +2,36 @@
 blocks and 16,777,216 bytes each. FOLDER gets the pieces, p00001.cgd and so on, and index.tsv,
 which has a line for each: its name, how many blocks and lines stand before it in FILE, how many
 blocks it has, and a sum of its bytes. Blocks that the program reads stay as they are. Of others, as
-CRYSTAL, of key lines and of a CIF the nets are written, as cgd2net and cif2cgd make them, and
+CRYSTAL, of key lines and of structures the nets are written, as cgd2net and cif2cgd make them, and
 p00001.lines has the lines where the blocks of p00001.cgd begin in FILE. A block that gives no net
-stays as it is, so that it is counted and reported, and the reason is told. With --as-it-is nothing
-is turned: the pieces joined are FILE, byte for byte, and those of key lines are p00001.arc and so on."""
+stays as it is, so that it is counted and reported, and the reason is told. FILE may be packed by gzip. With
+--as-it-is nothing is turned: the pieces joined are FILE, byte for byte, and those of key lines are p00001.arc and so on."""
 
 from __future__ import annotations
 
 import argparse
+import gzip
+import io
 import os
 import sys
+import zlib
 from collections.abc import Callable, Iterable, Iterator
+from contextlib import contextmanager
 from dataclasses import dataclass
-from io import BufferedReader
 from pathlib import Path
+from typing import cast
 
+from ..errors import NotANet
 from ..files import write_whole
 from ..net import Net
 from ..provenance import DROPPED
-from ..reading import CIF, CIF_SUFFIXES, SUFFIXES, is_plain, net_of_chunk, nets_of_cif
+from ..reading import GZIP, holds_structure, is_plain, net_of_chunk, nets_of_cif
 from ..texts.net_text import (HEADER, ITEM_WORDS, MOST_BLOCKS, MOST_BYTES, OTHER_TEXTS, Chunk, NoReport, chunks_as_read,
                               chunks_of, first_word)
 
 from .pieces import INDEX, IndexRow, sum_of_piece
 
-BEGINNING = 65_536  # bytes by which a CIF without its ending is told
+BEGINNING = 65_536  # bytes by which a structure without its ending is told
 
 
 def words() -> argparse.Namespace:
@@ -72,10 +77,11 @@ class Reader:
 
     def __init__(self, file: str) -> None:
         self.file = file
+        self.name = "" if file == "-" else os.path.basename(file).removesuffix(".gz")
         self.failed = 0
 
-    def cuts(self, stream: BufferedReader, as_it_is: bool) -> Iterator[Cut]:
-        if not as_it_is and self._is_structure(stream):
+    def cuts(self, stream: io.BufferedReader, as_it_is: bool) -> Iterator[Cut]:
+        if not as_it_is and holds_structure(stream.peek(BEGINNING), self.name):
             yield from self._of_structures(stream.read())
             return
         for chunk in self._nets_of(chunks_as_read(stream) if as_it_is else chunks_of(stream)):
@@ -83,10 +89,6 @@ class Reader:
                 yield Cut(b"".join(chunk.lines), chunk.opening_line, chunk.first_line - 1)
             elif chunk.opening_line:
                 yield self._made(chunk)
-
-    def _is_structure(self, stream: BufferedReader) -> bool:
-        suffix = Path(self.file).suffix.lower()
-        return suffix in CIF_SUFFIXES or (suffix not in SUFFIXES and CIF.search(stream.peek(BEGINNING)) is not None)
 
     def _nets_of(self, chunks: Iterable[Chunk]) -> Iterator[Chunk]:
         """The chunks of a file of nets; NoReport where its first block opens a text of another kind."""
@@ -108,7 +110,7 @@ class Reader:
         return Cut(text, chunk.opening_line, chunk.first_line - 1, True)
 
     def _of_structures(self, content: bytes) -> Iterator[Cut]:
-        for net in nets_of_cif(content, {}, os.path.basename(self.file)):
+        for net in nets_of_cif(content, {}, self.name):
             self._tell(net, f'"{net.name}"')
             if not net.refusal:
                 yield Cut(net.block, 1, 0, True)
@@ -118,6 +120,21 @@ class Reader:
         told = [net.refusal] * bool(net.refusal) + [note.text for note in net.provenance.notes if note.kind == DROPPED]
         for text in told:
             print(f"split_nets: {self.file}: {place}: {text}".encode(errors="replace").decode(), file=sys.stderr)
+
+
+@contextmanager
+def opened(file: str, as_it_is: bool) -> Iterator[io.BufferedReader]:
+    """The bytes of a file, or of standard input; without gzip, unless they are wanted as they are. NotANet where what is
+    packed is damaged."""
+    with io.BufferedReader(io.FileIO(0 if file == "-" else file), BEGINNING) as source:
+        if as_it_is or not source.peek(len(GZIP)).startswith(GZIP):
+            yield source
+            return
+        try:
+            with gzip.GzipFile(fileobj=source) as packed:
+                yield io.BufferedReader(cast(io.RawIOBase, packed), BEGINNING)
+        except (gzip.BadGzipFile, EOFError, zlib.error) as fault:
+            raise NotANet(f"{file} is packed by gzip, and damaged: {fault}") from None
 
 
 def has_words_before(chunk: Chunk) -> bool:
@@ -164,7 +181,7 @@ def main() -> int:
     too_long, blocks_before, ending = False, 0, "cgd"
     rows: list[IndexRow] = []
     reader = Reader(asked.file)
-    with open(0 if asked.file == "-" else asked.file, "rb") as source:
+    with opened(asked.file, asked.as_it_is) as source:
         for number, group in enumerate(pieces(reader.cuts(source, asked.as_it_is), asked.blocks, asked.bytes), start=1):
             asked.folder.mkdir(parents=True, exist_ok=True)
             if asked.as_it_is and number == 1 and first_word_of(group) in ITEM_WORDS:

@@ -49,7 +49,7 @@ def words() -> argparse.Namespace:
     parser.add_argument("--bond", action="append", default=[], type=pair_and_length, metavar="A-B=LENGTH",
                         help="of these two elements, bonds up to the length and no others (0: none)")
     parser.add_argument("--keep-ions", action="store_true",
-                        help="keep Na K Rb Cs Ca Sr Ba beside a framework")
+                        help="keep the cations that a framework holds as guests")
     parser.add_argument("--convention", default=AUTO_BY_DEFAULT, type=convention, metavar="NAME",
                         help="what is a vertex: all-atoms, single-nodes, all-nodes, pe, pem, standard; auto gives "
                         "those that apply and differ (where none is named: auto for organic carbon with metals, else "

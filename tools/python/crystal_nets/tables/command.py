@@ -35,7 +35,7 @@ ended from outside; 75 a file of the source cannot be read now, and the same com
 example: net_table structures results --jobs 4 --archive archives"""
 SOME_REFUSED, FAILED = 1, 3
 TRY_AGAIN = 75  # EX_TEMPFAIL of sysexits.h
-SWITCHES = {"keep_ions": "keep Na K Rb Cs Ca Sr Ba beside a framework", "hydrogen_bonds": "hydrogen bonds are edges",
+SWITCHES = {"keep_ions": "keep the cations that a framework holds as guests", "hydrogen_bonds": "hydrogen bonds are edges",
             "partial_as_full": "take partly occupied atoms as full", "accept_misfit": "take atoms that cannot be right",
             "every_copy": "each of several nets of the same atoms"}
 

@@ -14,10 +14,10 @@ from ..asking import answered_in_time, identify_all, keys
 from ..errors import NotANet
 from ..files import write_whole
 from ..net import Net
-from ..reading import net_of_chunk, nets_of_cif
+from ..reading import net_of_chunk, nets_of_file
 from ..texts.net_text import chunks_of
 from .columns import OF_A_PIECE, escaped, joined, line_of
-from .plan import AFTER_ITEM, FORM, STRUCTURE, Piece, Plan, Portion
+from .plan import AFTER_ITEM, FORM, WHOLE, Piece, Plan, Portion
 
 Found = tuple[str, Net]  # the file, and a net of it
 
@@ -71,9 +71,12 @@ def nets_of_portion(portion: Portion, settings: dict[str, Any]) -> list[Found]:
 
 def _nets_of(portion: Portion, content: bytes, settings: dict[str, Any]) -> Iterator[Net]:
     """The nets. The lines that open their blocks are counted in the whole file."""
-    if portion.kind == STRUCTURE:
+    if portion.kind == WHOLE:
         options = {**settings["options"], "leave_out": frozenset(settings["options"].get("leave_out", ()))}
-        yield from nets_of_cif(content, options, os.path.basename(portion.path))
+        try:
+            yield from nets_of_file(content, os.path.basename(portion.path), options)
+        except NotANet as reason:  # it is damaged, or a text of another kind begins there
+            yield Net.refused(str(reason))
         return
     for chunk in chunks_of(BytesIO(content), portion.kind == AFTER_ITEM):
         if chunk.opening_line:

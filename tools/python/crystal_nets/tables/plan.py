@@ -12,17 +12,17 @@ from pathlib import Path
 from typing import Any, NamedTuple
 
 from ..errors import in_words
-from ..reading import CIF, CIF_SUFFIXES, SUFFIXES
+from ..reading import GZIP, holds_structure, is_known
 from ..texts.net_text import chunks_of
 
-FORM = "net_table 3"
+FORM = "net_table 4"
 MOST_BLOCKS = 1_000      # of a piece: few enough that little is lost where a run breaks off
 MOST_BYTES = 4_000_000
 MOST_STRUCTURES = 40     # files, which take longer than blocks
 BEGINNING = 65_536       # bytes by which a file without a known ending is told
 
 
-STRUCTURE, BLOCKS, AFTER_ITEM = "structure", "blocks", "blocks after an item"
+WHOLE, BLOCKS, AFTER_ITEM = "whole", "blocks", "blocks after an item"
 
 
 class Failed(Exception):
@@ -38,14 +38,15 @@ class SourceAway(Exception):
 
 
 class Portion(NamedTuple):
-    """What a piece has of a file. Of a structure file it is all; of a text so many bytes from an offset on, and
-    whether an item of key lines stands before them. The sum tells whether they are the bytes that were planned."""
+    """What a piece has of a file. Of a structure, and of what is packed by gzip, it is all; of a text so many bytes from an
+    offset on, and whether an item of key lines stands before them. The sum tells whether they are the bytes that were
+    planned."""
 
     path: str
     offset: int
     length: int
     lines_before: int
-    kind: str  # STRUCTURE, BLOCKS or AFTER_ITEM
+    kind: str  # WHOLE, BLOCKS or AFTER_ITEM
     sum: str
 
     def read(self, at: str) -> bytes:
@@ -54,7 +55,7 @@ class Portion(NamedTuple):
         try:
             with open(Path(at, self.path), "rb") as file:
                 file.seek(self.offset)
-                content = file.read() if self.kind == STRUCTURE else file.read(self.length)
+                content = file.read() if self.kind == WHOLE else file.read(self.length)
         except OSError as fault:
             raise SourceAway.of(fault) from None
         if sum_of(content) != self.sum:
@@ -151,7 +152,7 @@ def files_of(source: Path, at: str = "") -> list[Path]:
     for folder, folders, names in os.walk(top, followlinks=True):
         folders.sort()
         inner = source / Path(folder).relative_to(top)
-        found += [inner / name for name in sorted(names) if name.lower().endswith(SUFFIXES)]
+        found += [inner / name for name in sorted(names) if is_known(name)]
     return found
 
 
@@ -170,34 +171,33 @@ def plan_of(files: list[Path], settings: dict[str, Any]) -> Plan:
     piece: list[Portion] = []
     structures = blocks = size = 0
     for portion, count in portions_of(files):
-        is_structure = portion.kind == STRUCTURE
-        if piece and (structures + is_structure > MOST_STRUCTURES or blocks + count > MOST_BLOCKS
+        is_whole = portion.kind == WHOLE
+        if piece and (structures + is_whole > MOST_STRUCTURES or blocks + count > MOST_BLOCKS
                       or size + portion.length > MOST_BYTES):
             plan.pieces.append(piece)
             piece, structures, blocks, size = [], 0, 0, 0
         piece.append(portion)
-        structures, blocks, size = structures + is_structure, blocks + count, size + portion.length
+        structures, blocks, size = structures + is_whole, blocks + count, size + portion.length
     if piece:
         plan.pieces.append(piece)
     return plan
 
 
 def portions_of(files: list[Path]) -> Iterator[tuple[Portion, int]]:
-    """The portions of the files, and how many blocks each has; structures count as none."""
+    """The portions of the files, and how many blocks each has; what is read as a whole counts as none."""
     for file in files:
-        if _is_structure(file):
+        if _is_whole(file):
             content = file.read_bytes()
-            yield Portion(str(file), 0, len(content), 0, STRUCTURE, sum_of(content)), 0
+            yield Portion(str(file), 0, len(content), 0, WHOLE, sum_of(content)), 0
         else:
             yield from _portions_of_text(file)
 
 
-def _is_structure(file: Path) -> bool:
-    suffix = file.suffix.lower()
-    if suffix in SUFFIXES:
-        return suffix in CIF_SUFFIXES
+def _is_whole(file: Path) -> bool:
+    """Whether a file is read as a whole: a structure, and what is packed by gzip."""
     with open(file, "rb") as content:
-        return CIF.search(content.read(BEGINNING)) is not None
+        beginning = content.read(BEGINNING)
+    return beginning.startswith(GZIP) or holds_structure(beginning, file.name)
 
 
 def _portions_of_text(file: Path) -> Iterator[tuple[Portion, int]]:

@@ -17,6 +17,7 @@ from ...refusal import Refused
 # Times the sum of the radii: two atoms nearer than this are no bond, but an error or halves.
 TOO_NEAR = 0.55
 SAME = 0.001  # angstrom: an atom and itself
+EXCHANGED = {"Lu": 1.87, "Hf": 1.75}  # radii that gemmi 0.5 has the other way round
 MOST_IMAGES = 4_000_000  # that are looked at: only a cell that is no crystal's needs more
 
 
@@ -39,8 +40,9 @@ class Contact:
 
 @cache
 def radius(element: str) -> float:
-    """The covalent radius of Cordero and others (2008), in angstrom."""
-    return gemmi.Element(element).covalent_r
+    """The covalent radius of B. Cordero and others, Dalton Trans. (2008) 2832, in angstrom: of carbon that in rings, of Mn,
+    Fe and Co those of low spin."""
+    return EXCHANGED.get(element) or gemmi.Element(element).covalent_r
 
 
 def contacts(cell: np.ndarray, places: np.ndarray, reach: float, wanted: Wanted | None = None) -> list[Contact]:

@@ -1,8 +1,8 @@
 """Bond valences of metals: how strong a bond is, by its length.
 
 s = exp((R0 - d) / 0.37), with R0 for oxygen of I. D. Brown and D. Altermatt, Acta Cryst. B41 (1985) 244. For other
-anions R0 is longer by a step that is about the same for all metals (N. E. Brese and M. O'Keeffe, Acta Cryst. B47
-(1991) 192). It errs by some 0.1 to 0.2 where a metal has several valences."""
+anions R0 is longer by a step that is about the same for all metals: the mean of what M. O'Keeffe and N. E. Brese
+(J. Am. Chem. Soc. 113 (1991) 3226) give. It errs by some 0.1 to 0.2 where a metal has several valences."""
 
 from __future__ import annotations
 
@@ -19,8 +19,8 @@ Lu:1.971 Y:2.014 Sc:1.849 Bi:2.094 Al:1.651 Ga:1.730 In:1.902 Zn:1.704 Cd:1.904 
 Fe:1.759 Mn:1.790 Cr:1.724 V:1.784 Ti:1.815 Zr:1.937 Hf:1.923 Nb:1.911 Ta:1.920 Mo:1.907 W:1.921 Sn:1.905 Ge:1.748
 Sb:1.942 Te:1.977 U:2.075 Th:2.167 Re:1.930 Ru:1.834 Rh:1.793 Pd:1.792 Os:1.811 Ir:1.870 Pt:1.879 Au:1.833
 """.split())}
-LONGER = {"O": 0.0, "F": -0.12, "N": 0.15, "C": 0.15, "Cl": 0.38, "Br": 0.53, "I": 0.76, "S": 0.42, "Se": 0.55,
-          "Te": 0.76, "P": 0.50, "As": 0.60, "H": -0.30}
+LONGER = {"O": 0.0, "F": -0.10, "N": 0.12, "C": 0.22, "Cl": 0.37, "Br": 0.52, "I": 0.73, "S": 0.44, "Se": 0.57,
+          "Te": 0.77, "P": 0.53, "As": 0.63, "H": -0.16}
 
 
 def valence(metal: str, anion: str, length: float) -> float:

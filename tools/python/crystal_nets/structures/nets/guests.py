@@ -4,7 +4,7 @@ They are found by the structure, for all elements of a site alike. A site is wea
 of at most 0.30 (as K in 12 and Na in 6 oxygens), or where it has eight or more anions, and bonds much weaker than
 those of another metal (as Y in garnets). The charge of a cation over its number of anions is L. Pauling's strength
 (J. Am. Chem. Soc. 51 (1929) 1010). Weak sites go, the weakest first, as long as what is left is a net in space;
-those with a mean valence up to 0.15 also where layers are left, as in micas. A site stays where it has as many anions
+those with a mean valence up to 0.16 also where layers are left, as in micas. A site stays where it has as many anions
 as other cations and is a tetrahedron or an octahedron, or is as large as theirs, as Li in LiAlO2 and LiCoO2.
 
 That is a choice, and where the other one gives a net, too, it is told as a doubt."""
@@ -27,7 +27,7 @@ from .simplification import contracted, shells
 
 WEAK = 0.30         # the greatest mean valence of the bonds of a guest
 WEAK_OF_ONE = 0.34  # of one with a single charge: three bonds share it
-VERY_WEAK = 0.15    # of one without which layers are left
+VERY_WEAK = 0.16    # of one without which layers are left
 LARGE = 8           # anions of a large site
 WEAKER = 0.75       # times the strongest other metal: a large site with weaker bonds is a guest, too
 LARGE_UNSURE = 7    # anions: a site that stays, and is told of where the rest is a net without it

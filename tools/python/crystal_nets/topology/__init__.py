@@ -1,0 +1,14 @@
+"""What databases of nets list: point symbols, vertex symbols, topological density, kinds of vertices and edges.
+
+All of it is computed here, beside the program, and nothing of it is proved. Two nets may agree in all of it and differ.
+
+infinite    the vertices of the infinite net as whole numbers, and how far they are from each other
+angles      shortest cycles and shortest rings at the angles of a vertex
+symbols     how these are written
+symmetries  the automorphisms of a net, and its kinds of vertices and edges
+listed      Topology: all of it of one net
+command     net_topology: of the nets of files"""
+
+from .listed import Topology, VertexKind, topology_of
+
+__all__ = ["Topology", "VertexKind", "topology_of"]

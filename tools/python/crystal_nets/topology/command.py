@@ -1,0 +1,60 @@
+"""What databases list of the nets of files: a line for each net, with tabs between its fields. These are the file, the
+name, the point symbol, the vertex symbols of the kinds of vertices, the topological density TD10, and how many kinds of
+vertices and of edges there are. All of it is computed beside the program, and not proved. A net that is not connected, or
+takes too long, is told on standard error, and so is what gives no net. A FILE is of any kind that net_table takes."""
+
+from __future__ import annotations
+
+import argparse
+import json
+import sys
+from collections.abc import Iterator
+from pathlib import Path
+
+from ..errors import NotANet, in_words
+from ..net import Net
+from ..reading import read
+from ..tables.columns import escaped
+from .listed import Topology, topology_of
+
+HEAD = ("source", "name", "point_symbol", "vertex_symbols", "td10", "transitivity")
+
+
+def words() -> argparse.Namespace:
+    parser = argparse.ArgumentParser(prog="net_topology", description=__doc__,
+                                     epilog="exit status: 0 all was told; 1 something was not; 2 usage.")
+    parser.add_argument("files", metavar="FILE", nargs="+", help="nets or structures, or a folder of them")
+    parser.add_argument("--json", action="store_true", help="a line of JSON for each net, with each kind of vertex")
+    return parser.parse_args()
+
+
+def main() -> int:
+    asked = words()
+    missing = 0
+    if not asked.json:
+        print("\t".join(HEAD))
+    for file, net in nets_of(asked.files):
+        found = topology_of(net.graph) if not net.refusal else None
+        if found is None:
+            missing += 1
+            reason = net.refusal or "the net is not connected, or takes too long"
+            print(f"net_topology: {file}: {net.name or '?'}: {reason}".encode(errors="replace").decode(), file=sys.stderr)
+        else:
+            print(json.dumps({"source": file, "name": net.name, **found.to_dict()}) if asked.json else row_of(file, net, found))
+    return int(missing > 0)
+
+
+def nets_of(files: list[str]) -> Iterator[tuple[str, Net]]:
+    """The nets of the files, each with its own; a file that cannot be read is a net that says why."""
+    for file in files:
+        try:
+            for net in read(Path(file)):
+                yield net.provenance.file or file, net
+        except (OSError, NotANet) as fault:
+            yield file, Net.refused(in_words(fault))
+
+
+def row_of(file: str, net: Net, found: Topology) -> str:
+    symbols = " ".join(kind.vertex_symbol or "-" for kind in found.kinds)
+    fields = (file, net.name, found.point_symbol, symbols, f"{float(found.td10):.2f}", found.transitivity)
+    return "\t".join(map(escaped, fields)).encode(errors="replace").decode()
