@@ -15,7 +15,7 @@ from ..errors import in_words
 from ..reading import CIF, CIF_SUFFIXES, SUFFIXES
 from ..texts.net_text import chunks_of
 
-FORM = "net_table 3"
+FORM = "net_table 4"
 MOST_BLOCKS = 1_000      # of a piece: few enough that little is lost where a run breaks off
 MOST_BYTES = 4_000_000
 MOST_STRUCTURES = 40     # files, which take longer than blocks
