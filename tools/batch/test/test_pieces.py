@@ -18,7 +18,7 @@ BATCH = TOOLS / "batch"
 PROGRAM = """#!/bin/sh
 [ "$1" != duplicates ] || { echo "entries 0"; exit 0; }
 cat >"$0.$$"
-! grep -q "NAME slow" "$0.$$" || exec sleep 60
+! grep -q "NAME slow" "$0.$$" || exec sleep 600
 awk '{ gsub(/\\r/, "") } toupper($1) == "NAME" { name = $2 }
 !inside && NF && $1 !~ /^#/ && toupper($1) != "END" { inside = 1; line = NR; word = toupper($1) }
 inside && toupper($1) == "END" {
@@ -33,6 +33,7 @@ status=$?
 rm "$0.$$"
 exit $status
 """
+PLENTY = 6  # seconds: far more than the script takes for a net that it answers, also where the machine has much to do
 ITEM = "key 2 1 1 1 0 1 1 0 1\n  version 1.0\n  id item\nend\nchecksum 12\n"
 CRYSTAL = "CRYSTAL\n  NAME crystal\n  GROUP p4mm\n  CELL 1 1 90\n  NODE V 4 0 0\nEND\n"
 GRAPH = "# a comment\nPERIODIC_GRAPH\nNAME {0}\nEDGES\n1 1 1 0\n1 1 0 1\nEND\n"
@@ -187,24 +188,24 @@ class Pieces(FolderTest):
         names = ["a", "slow", "b", "c"]
         text = "".join(GRAPH.format(name) for name in names)
         pieces = self.split(text)
-        rows = self.rows(pieces, 1, "--seconds", 2)
+        rows = self.rows(pieces, 1, "--seconds", PLENTY)
         self.assertEqual([row[2] for row in rows], names)
-        self.assertEqual([row[3] for row in rows], ["accepted", "stopped 2 Seconds", "accepted", "accepted"])
+        self.assertEqual([row[3] for row in rows], ["accepted", f"stopped {PLENTY} Seconds", "accepted", "accepted"])
         self.assertEqual(self.tool("net_groups", pieces).stdout, b"3\t1\ta\t3\tb\t4\tc\n")
         self.assertEqual(self.tool("key_piece", "--seconds", 1, pieces, 1).stderr, b"")  # they were given more
-        self.assertIn(b"is made anew", self.tool("key_piece", "--seconds", 3, pieces, 1).stderr)
+        self.assertIn(b"is made anew", self.tool("key_piece", "--seconds", PLENTY + 1, pieces, 1).stderr)
         self.tool("key_piece", "--seconds", 0, pieces, 1, status=2)
 
     def test_a_table_with_nets_that_are_stopped(self):
         (self.folder / "nets.cgd").write_text("".join(GRAPH.format(name) for name in ("a", "slow", "b")))
         words = ("--no-names", "--keys-alone", "--jobs", 1)
-        self.tool("net_table", *words, "--seconds", 2, self.folder / "nets.cgd", self.folder / "table", status=1)
+        self.tool("net_table", *words, "--seconds", PLENTY, self.folder / "nets.cgd", self.folder / "table", status=1)
         rows = [row.split("\t") for row in (self.folder / "table/table.tsv").read_text().splitlines()[1:]]
         self.assertEqual([(row[3], row[4]) for row in rows],
-                         [("a", "accepted"), ("slow", "stopped 2 Seconds"), ("b", "accepted")])
-        self.assertIn("no answer came within 2 seconds", (self.folder / "table/refused.tsv").read_text())
+                         [("a", "accepted"), ("slow", f"stopped {PLENTY} Seconds"), ("b", "accepted")])
+        self.assertIn(f"no answer came within {PLENTY} seconds", (self.folder / "table/refused.tsv").read_text())
         done = self.tool("net_table", *words, "--seconds", 9, self.folder / "nets.cgd", self.folder / "table", status=3)
-        self.assertIn(b"its seconds is 2", done.stderr)
+        self.assertIn(b"its seconds is %d" % PLENTY, done.stderr)
         self.assertFalse([name for name in os.listdir(self.folder / "table/work") if name.endswith(".part")])
 
     def test_parquet(self):

@@ -14,7 +14,7 @@ from pathlib import Path
 from odd_cells import block, in_odd_cell, text_of_odd_nets
 from testing import IS_LONG, PROGRAM, TOOLS, TOP, FolderTest, long_test, need_commands, need_modules, need_program, run
 
-from crystal_nets import Net, cover  # noqa: E402
+from crystal_nets import Net, cover, read  # noqa: E402
 from crystal_nets.tables.columns import TABLE, escaped, plain, read_table  # noqa: E402
 from crystal_nets.tables.piece import path_of, rows_of  # noqa: E402
 from crystal_nets.tables.plan import FORM, Failed, files_of, plan_of, read_plan  # noqa: E402
@@ -115,7 +115,22 @@ class Table(FolderTest):
         self.source.write_text("data_x\n" + cell + "loop_\n_atom_site_label\n" + "".join(
             f"_atom_site_fract_{axis}\n" for axis in "xyz") + atoms)
         self.make("--jobs", 1, status=0)
-        self.assertEqual([row["copies"] for row in table_of(self.result)], ["2"])
+        row, = table_of(self.result)
+        self.assertEqual((row["copies"], row["convention"], row["components"]), ("2", "all-atoms", "2 nets in space Cu4O2"))
+
+    def test_doubts_stand_apart_from_notes(self):
+        cell = "".join(f"_cell_length_{axis} 3.9\n" for axis in "abc")
+        cell += "".join(f"_cell_angle_{angle} 90\n" for angle in ("alpha", "beta", "gamma"))
+        atoms = "Ba 0 0 0\nTi .5 .5 .5\nO1 0 .5 .5\nO2 .5 0 .5\nO3 .5 .5 0\n"
+        self.source = self.folder / "BaTiO3.cif"
+        self.source.write_text("data_x\n" + cell + "loop_\n_atom_site_label\n" + "".join(
+            f"_atom_site_fract_{axis}\n" for axis in "xyz") + atoms)
+        self.make("--jobs", 1, status=None)
+        row, = table_of(self.result)
+        net, = read(self.source)
+        self.assertEqual([row["doubts"], row["left_out"], row["notes"]],
+                         [";".join(map(escaped, texts)) for texts in (net.doubts, net.left_out, net.provenance.remarks)])
+        self.assertTrue(row["doubts"] and row["left_out"], row)
 
     def test_a_folder_with_packed_files_and_those_of_other_programs(self):
         source = self.source = self.folder / "all"

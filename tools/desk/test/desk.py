@@ -83,11 +83,13 @@ class Server:
         return json.loads(self.request("POST", path, body, Content_Type=kind)[2])
 
     def nets(self, name: str, content: bytes, **fields: str) -> dict:
-        return self.ask("nets", file=(name, content), **{"first": "0", "convention": "all-atoms", "choices": "[]", **fields})
+        return self.ask("nets", file=(name, content), **{"convention": "all-atoms", "choices": "[]", **fields})
+
+    def rows(self, waiting: list[dict]) -> list[dict]:
+        return self.ask("rows", nets=json.dumps(waiting))
 
     def card(self, net: dict) -> dict:
-        return self.ask("card", block=net["block"], name=net["name"], provenance=json.dumps(net["provenance"]),
-                        refusal=net["refusal"])
+        return self.ask("card", net=json.dumps([net]))
 
     def end(self, name: int = signal.SIGINT) -> tuple[int, str, str]:
         """The status and what was printed, once a signal has ended it."""

@@ -1,9 +1,13 @@
 """The page in a browser, as a user has it: by mouse, by the keyboard alone, at the width of a phone, in the dark."""
 
+import csv
+import io
+import re
 import shutil
 import tempfile
 import time
 import unittest
+import zipfile
 from pathlib import Path
 
 from desk import Server, memory_for_program, need_desk
@@ -40,7 +44,7 @@ let behind = element;
 while (behind !== document.body && parts(getComputedStyle(behind).backgroundColor)[3] === 0) behind = behind.parentElement;
 const two = [getComputedStyle(element).color, getComputedStyle(behind).backgroundColor].map(light).sort((a, b) => a - b);
 return (two[1] + 0.05) / (two[0] + 0.05);"""
-TEXTS = ("body", "dt", ".dim", ".reason p", "summary", "button", ".names small", ".different, .unknown")
+TEXTS = ("body", "dt", ".dim", ".reason p", "summary", "button", ".names small", ".different, .unknown", ".opener", ".told .of-told")
 
 
 class Browser(unittest.TestCase):
@@ -85,7 +89,24 @@ class Browser(unittest.TestCase):
     def drop(self, *names: str) -> None:
         """Drops files of the examples, and waits for all cards."""
         self.driver.execute_script(DROP, [[name, (EXAMPLES / name).read_text()] for name in names])
-        self.until(lambda: len(self.all("#files > section")) >= len(names) and not self.all(".busy, [aria-busy]"))
+        self.ready(len(names))
+
+    def ready(self, files: int) -> None:
+        """Waits until so many files are read, and all cards that are open are there."""
+        done = "return sources.length >= arguments[0] && progressOf().done === progressOf().total && !running && !isDue"
+        self.until(lambda: self.driver.execute_script(done, files) and not self.all("#rows [aria-busy]"))
+
+    def rows(self) -> list[list[str]]:
+        """The texts of the rows of the table, in their order."""
+        return self.driver.execute_script("""return [...document.querySelectorAll('#rows > tr:not(.detail)')]
+            .map(row => [...row.children].map(cell => cell.textContent))""")
+
+    def column(self, place: int) -> list[str]:
+        return [row[place] for row in self.rows()]
+
+    def click(self, selector: str) -> None:
+        """A click on the first of some elements, wherever it is on the page."""
+        self.driver.execute_script("document.querySelector(arguments[0]).click()", selector)
 
     def pixels(self, canvas) -> str:
         return self.driver.execute_script(PIXELS, canvas)
@@ -98,8 +119,8 @@ class Browser(unittest.TestCase):
         names = [item.text for item in self.all(".card .names li")]
         self.assertIn("qtz, quartz common", names)
         self.assertIn("dia, diamond common", names)
-        self.assertEqual(len(self.all(".card")), 6)
-        told = self.driver.find_element(By.ID, "files").text
+        self.assertEqual((len(self.all(".card")), len(self.rows())), (6, 6))
+        told = self.driver.find_element(By.ID, "results").text
         for words in ("2 copies of dia, diamond", "The structure falls into pieces", "symmetry from name P 32 2 1",
                       "4 12 30 52 80 116 156 204 258 318", "2 interwoven copies", "hexagonal; a 1.633"):
             self.assertIn(words, told)
@@ -122,8 +143,7 @@ class Browser(unittest.TestCase):
 
     def test_two_side_by_side(self):
         self.drop("mystery.cgd", "quartz.cif")
-        cards = {card.find_element(By.TAG_NAME, "h3").text: card for card in self.all(".card")}
-        tick = lambda name: cards[name].find_element(By.CSS_SELECTOR, "input[type=checkbox]").click()  # noqa: E731
+        tick = lambda name: self.click(f"[aria-label='put {name} side by side']")  # noqa: E731
         verdict = lambda: self.driver.find_element(By.ID, "verdict").text  # noqa: E731
         tick("quartz")
         tick("sample F")
@@ -133,7 +153,7 @@ class Browser(unittest.TestCase):
         tick("sample A")  # quartz goes
         self.until(lambda: verdict().startswith("different"))
         self.assertIn("numbers of vertices: 3 and 2", verdict())
-        self.assertEqual(len(self.all(".card.chosen")), 2)
+        self.until(lambda: len(self.all("#rows .chosen")) == 2)
         tick("sample A")
         self.assertFalse(self.driver.find_element(By.ID, "pair").is_displayed())
 
@@ -146,7 +166,7 @@ class Browser(unittest.TestCase):
                           ball: 0.25, frame: [[1, 0, 0], [0, 1, 0], [0, 0, 1]] };
             const picture = new Picture(canvas, net, palette, LIGHT);
             picture.paint();
-            const data = picture.context.getImageData(0, 0, 600, 600).data, centre = picture.points[0];
+            const data = canvas.getContext('2d').getImageData(0, 0, 600, 600).data, centre = picture.points[0];
             let cut = 0;
             for (let x = 0; x < 600; x += 1) for (let y = 0; y < 600; y += 1) {
               if (Math.hypot(x - centre.x, y - centre.y) > 0.9 * picture.ball) continue;
@@ -155,45 +175,230 @@ class Browser(unittest.TestCase):
             }
             return cut;"""), 0)
 
-    def test_what_is_read_can_be_stopped(self):
+    def test_what_is_read_can_be_stopped_and_goes_on(self):
         text = (EXAMPLES.parent / "archives/common.cgd").read_text()
-        self.driver.execute_script(DROP, [["common.cgd", text]])
+        self.driver.execute_script("""const wait = answerOf;  // each answer comes late, so that there is time for the button
+            window.answerOf = async (...given) => { await new Promise(done => setTimeout(done, 400)); return wait(...given); };""")
+        self.driver.execute_script(DROP, [["common.cgd", text * 8]])
         stop = self.driver.find_element(By.ID, "stop")
-        self.until(stop.is_displayed)
-        self.assertRegex(self.driver.find_element(By.ID, "progress").text, r"\d+ of \d+ steps done")
+        self.until(lambda: re.search(r"(24|[1-9]\d\d+) of 1,744 nets", self.driver.find_element(By.ID, "progress").text))
         stop.click()
-        self.assertEqual(self.all(".busy, [aria-busy]"), [])
-        self.assertIn("stopped", self.all("#files .bar")[0].text)
         self.until(lambda: not stop.is_displayed())
-        self.assertLess(len(self.all(".card")), 24)
+        self.assertIn("was stopped", self.driver.find_element(By.ID, "stopped").text)
+        stopped = "return sources[0].entries.filter(entry => entry.state === 'stopped').length"
+        self.assertGreater(self.driver.execute_script(stopped), 0)
+        self.driver.find_element(By.ID, "go-on").click()
+        self.ready(1)
+        self.assertEqual(self.driver.execute_script(stopped), 0)
+        self.assertIn("1,744 nets", self.driver.find_element(By.ID, "counts").text)
+
+    def test_a_hundred_files_in_their_order(self):
+        names = [f"{k:03}{name}" for k in range(25) for name in ("sql.cgd", "quartz.cif", "dia.cgd", "srs.cgd")]
+        files = [[name, (EXAMPLES / name[3:]).read_text()] for name in names]
+        begun = time.monotonic()
+        self.driver.execute_script(DROP, files)
+        self.ready(100)
+        self.assertLess(time.monotonic() - begun, 100)  # a second a file
+        self.assertEqual(self.column(3), names)
+        self.assertLess(self.driver.execute_script("return document.documentElement.scrollHeight / innerHeight"), 5)
+        self.assertEqual(self.all("article"), [])
+
+    def test_the_table_sorts_and_filters(self):
+        self.drop("mystery.cgd", "interwoven.cgd", "quartz.cif")
+        given = self.column(2)
+        self.assertEqual((len(given), given[-1][-6:]), (len(self.rows()), "quartz"))
+        button = self.all("#heads [data-column=name] button")[0]
+        orders = [given]
+        for wanted in ("ascending", "descending", "none"):
+            button.click()
+            self.assertEqual(self.all("#heads [data-column=name]")[0].get_attribute("aria-sort"), wanted)
+            orders.append(self.column(2))
+        self.assertEqual(orders[1], sorted(given, key=str.lower))
+        self.assertEqual((orders[2], orders[3]), (orders[1][::-1], given))
+        self.assertEqual(self.driver.switch_to.active_element, button)
+        box = self.driver.find_element(By.ID, "filter")
+        box.send_keys("quartz 4")
+        self.until(lambda: len(self.rows()) == 2)
+        self.assertEqual(self.driver.switch_to.active_element, box)
+        box.clear()
+        self.driver.find_element(By.CSS_SELECTOR, "#kind option[value=keyless]").click()
+        self.until(lambda: set(self.column(3)) == {"interwoven.cgd"})
+
+    def test_many_nets_are_read_and_their_file_is_sent_once(self):
+        blocks = (EXAMPLES.parent / "archives/common.cgd").read_text()
+        self.driver.execute_script("""const sent = window.sent = [], inner = window.fetch;
+            window.fetch = (path, request) => { sent.push([path, !!request?.body?.get?.('file')]); return inner(path, request); };""")
+        begun = time.monotonic()
+        self.driver.execute_script(DROP, [["many.cgd", blocks * 46]])
+        self.ready(1)
+        self.assertEqual(self.driver.find_element(By.ID, "counts").text, "10,028 nets")
+        self.assertEqual([path for path, has_file in self.driver.execute_script("return sent") if has_file], ["nets"])
+        self.assertEqual(len(self.rows()), 100)
+        self.assertRegex(self.driver.find_element(By.ID, "page").text, "rows 1 to 100 of 10,028")
+        self.driver.find_element(By.ID, "after").click()
+        self.assertRegex(self.driver.find_element(By.ID, "page").text, "rows 101 to 200 of 10,028")
+        self.assertLess(time.monotonic() - begun, PATIENCE)
+
+    def test_small_pictures_on_demand(self):
+        self.drop("mystery.cgd", "sql.cgd")
+        self.driver.find_element(By.ID, "with-pictures").click()
+        for place in self.all("#rows .small"):
+            self.driver.execute_script("arguments[0].scrollIntoView({ block: 'center' })", place)
+            self.until(lambda: place.find_elements(By.TAG_NAME, "canvas"))  # noqa: B023
+            canvas = place.find_element(By.TAG_NAME, "canvas")
+            self.assertRegex(canvas.get_attribute("aria-label"), "picture of .+: .+-connected")
+            self.until(lambda: len(set(self.pixels(canvas).split(","))) > 10, "it is not painted")  # noqa: B023
+
+    def test_focus_and_place_are_kept(self):
+        self.drop("quartz.cif", "dia.cgd", "sql.cgd")
+        again = self.all("article .tools select")[0]
+        self.driver.execute_script("arguments[0].focus()", again)
+        for value in ("standard", "all-atoms"):
+            self.driver.execute_script("arguments[0].value = arguments[1]; arguments[0].onchange()", again, value)
+            self.ready(3)
+            self.assertEqual(self.driver.switch_to.active_element, again)
+        box = self.all("#rows input[type=checkbox]")
+        self.driver.execute_script("arguments[0].scrollIntoView({ block: 'center' })", box[2])
+        top = lambda: self.driver.execute_script("return arguments[0].getBoundingClientRect().top", box[2])  # noqa: E731
+        before = top()
+        box[2].send_keys(Keys.SPACE)
+        self.driver.execute_script("arguments[0].click()", box[1])
+        self.until(lambda: self.driver.find_element(By.ID, "verdict").text.startswith("different"))
+        self.until(lambda: len(self.all("#pair-nets canvas")) == 2)
+        self.assertLess(abs(top() - before), 3)
+        self.assertEqual(self.driver.switch_to.active_element, box[2])
+
+    def test_the_structure_beside_its_net(self):
+        self.drop("quartz.cif")
+        box, = self.all(".structure")
+        self.driver.execute_script("arguments[0].scrollIntoView({ block: 'center' })", box)
+        self.until(lambda: box.find_elements(By.TAG_NAME, "canvas"))
+        canvas = box.find_element(By.TAG_NAME, "canvas")
+        self.until(lambda: len(set(self.pixels(canvas).split(","))) > 10, "it is not painted")
+        self.assertIn("picture of quartz with its atoms", canvas.get_attribute("aria-label"))
+        before, chooser = self.pixels(canvas), box.find_element(By.TAG_NAME, "select")
+        self.assertIn("Si1: Si, 4-connected", chooser.text)
+        chooser.find_elements(By.TAG_NAME, "option")[1].click()
+        lit = self.pixels(canvas)
+        self.assertNotEqual(lit, before)
+        chooser.find_elements(By.TAG_NAME, "option")[0].click()
+        self.assertEqual(self.pixels(canvas), before)
+        x, y = self.driver.execute_script("""const seen = pictures.get(arguments[0]), frame = arguments[0].getBoundingClientRect();
+            const front = seen.points.reduce((one, other) => one.z > other.z ? one : other), share = frame.width / arguments[0].width;
+            return [front.x * share - frame.width / 2, front.y * share - frame.height / 2];""", canvas)
+        ActionChains(self.driver).move_to_element_with_offset(canvas, round(x), round(y)).click().perform()
+        self.until(lambda: chooser.get_attribute("value") != "-1")
+        self.assertNotEqual(self.pixels(canvas), before)
+
+    def test_nothing_is_clipped_however_it_is_turned(self):
+        """A border of paper stays around all of each picture."""
+        self.drop("quartz.cif", "interwoven.cgd")
+        self.assertEqual(self.driver.execute_script("""let cut = 0;
+            for (const picture of pictures.values()) for (let k = 0; k < 24; k += 1) {
+              picture.turn(0.7, 0.4);
+              picture.paint();
+              const { width, height } = picture.canvas, { data } = picture.canvas.getContext('2d').getImageData(0, 0, width, height);
+              const isPaper = (x, y) => data[4 * (width * y + x)] === data[0] && data[4 * (width * y + x) + 1] === data[1];
+              for (let m = 0; m < width; m += 1) cut += !isPaper(m, 0) + !isPaper(m, height - 1) + !isPaper(0, m) + !isPaper(width - 1, m);
+            }
+            return cut;"""), 0)
+
+    def test_a_zip_archive(self):
+        content = io.BytesIO()
+        with zipfile.ZipFile(content, "w", zipfile.ZIP_DEFLATED) as archive:
+            for name in ("quartz.cif", "dia.cgd"):
+                archive.write(EXAMPLES / name, f"folder/{name}")
+        files = [["both.zip", list(content.getvalue())], ["broken.zip", [0x50, 0x4b, 3, 4, 0]]]
+        self.driver.execute_script(DROP.replace("[text]", "[Uint8Array.from(text)]"), files)
+        self.ready(3)
+        self.assertEqual(self.column(3), ["quartz.cif", "dia.cgd", "broken.zip"])
+        self.assertIn("the ZIP archive is damaged", self.rows()[2][-1])
+
+    def test_all_is_saved(self):
+        self.drop("quartz.cif", "dia.cgd", "interwoven.cgd")
+        for button in ("save-table", "save-blocks", "save-all"):
+            self.driver.find_element(By.ID, button).click()
+        self.until(lambda: {"nets.csv", "nets.cgd", "nets.zip"} <= {path.name for path in Path(self.home).iterdir()})
+        with open(Path(self.home) / "nets.csv", newline="", encoding="utf-8") as file:
+            rows = list(csv.DictReader(file))
+        self.assertEqual([row["net"] for row in rows][:2], ["quartz", "dia"])
+        self.assertEqual((rows[0]["names"], rows[0]["vertices"], rows[0]["convention"]), ("qtz, quartz", "3", "all-atoms"))
+        self.assertIn("falls into pieces", rows[2]["reason"])
+        self.assertEqual((Path(self.home) / "nets.cgd").read_text().count("PERIODIC_GRAPH"), 6)
+        with zipfile.ZipFile(Path(self.home) / "nets.zip") as archive:
+            self.assertIsNone(archive.testzip())
+            self.assertLessEqual({"nets.csv", "quartz.cgd", "quartz.report", "quartz.svg", "dia.svg"}, set(archive.namelist()))
+
+    def test_a_formula_in_a_name_is_a_text(self):
+        text = 'PERIODIC_GRAPH\nNAME "=1+1"\nEDGES\n1 1 1 0\n1 1 0 1\nEND\n'
+        self.driver.execute_script(DROP, [["-x.cgd", text]])
+        self.ready(1)
+        line = self.driver.execute_script("return tableText(shown)").splitlines()[1]
+        self.assertEqual(line.split(",")[:2], ['"\'-x.cgd"', '"\'=1+1"'])
+
+    def test_the_picture_that_is_saved_is_the_view_that_is_seen(self):
+        self.drop("dia.cgd")
+        canvas, = self.all(".views canvas")
+        texts = []
+        for _ in range(2):
+            texts.append(self.driver.execute_script("return pictures.get(arguments[0]).svg('<dia>')", canvas))
+            canvas.send_keys(Keys.ARROW_LEFT)
+        self.assertNotEqual(*texts)
+        self.assertIn("<title>&lt;dia&gt;</title>", texts[0])
+        same = self.driver.execute_async_script("""const [text, canvas, done] = arguments, image = new Image();
+            pictures.get(canvas).reset();
+            pictures.get(canvas).paint();
+            image.onload = () => {
+              const other = document.createElement('canvas');
+              other.width = other.height = canvas.width;
+              other.getContext('2d').drawImage(image, 0, 0, canvas.width, canvas.width);
+              const [one, two] = [canvas, other].map(one => one.getContext('2d').getImageData(0, 0, one.width, one.width).data);
+              let differ = 0;
+              for (let k = 0; k < one.length; k += 4) differ += Math.abs(one[k] - two[k]) > 60;
+              done(differ / (one.length / 4));
+            };
+            image.src = URL.createObjectURL(new Blob([text], { type: 'image/svg+xml' }));""", texts[0], canvas)
+        self.assertLess(same, 0.02)  # of the points
+
+    def test_each_control_has_a_name(self):
+        self.drop("quartz.cif", "dia.cgd")
+        self.driver.find_element(By.ID, "with-pictures").click()
+        self.until(lambda: self.all("#rows .small canvas"))
+        nameless = self.driver.execute_script("""return [...document.querySelectorAll('input, select, button, canvas, progress')]
+            .filter(one => !(one.getAttribute('aria-label') || one.getAttribute('aria-labelledby') || one.labels?.length ||
+              (one.tagName === 'BUTTON' && one.textContent.trim()))).map(one => one.outerHTML.slice(0, 90))""")
+        self.assertEqual(nameless, [])
+        saves = [button.text for button in self.all("button") if "save" in button.text.lower()]
+        self.assertTrue(all(text.startswith("Save ") for text in saves) and len(saves) > 6, saves)
 
     def test_the_choice_above_is_for_what_is_shown(self):
         self.drop("quartz.cif", "dia.cgd")
-        sections = self.all("#files > section")
-        self.assertEqual([section.find_element(By.TAG_NAME, "h2").text for section in sections], ["quartz.cif", "dia.cgd"])
-        chosen = lambda: [select.get_attribute("value") for select in self.all("#files select")]  # noqa: E731
+        self.assertEqual(self.column(3), ["quartz.cif", "dia.cgd"])
+        chosen = lambda: [select.get_attribute("value") for select in self.all("#rows .tools select")]  # noqa: E731
+        told = lambda: [row[-1] for row in self.rows()]  # noqa: E731
         self.assertEqual(chosen(), ["fitting"])
         self.driver.find_element(By.CSS_SELECTOR, "#convention option[value=standard]").click()
-        self.until(lambda: "there is no carbon" in sections[0].text)
+        self.until(lambda: "there is no carbon" in told()[0])
         self.assertEqual(chosen(), ["standard"])
-        self.assertNotIn("carbon", sections[1].text)
-        self.driver.find_element(By.CSS_SELECTOR, "#files option[value=all-atoms]").click()
-        self.until(lambda: "qtz, quartz" in sections[0].text)
-        sections[0].find_element(By.XPATH, ".//button[text()='read again']").click()
-        self.until(lambda: "qtz, quartz" in sections[0].text and not self.all(".busy, [aria-busy]"))
+        self.assertNotIn("carbon", told()[1])
+        self.driver.find_element(By.CSS_SELECTOR, "#rows option[value=all-atoms]").click()
+        self.until(lambda: "qtz, quartz" in self.column(4)[0])
+        self.click("[aria-label^='read quartz.cif again with']")
+        self.ready(2)
+        self.assertIn("qtz, quartz", self.column(4)[0])
 
     def test_the_verdict_stands_above_the_pictures(self):
         self.drop("dia.cgd", "sql.cgd")
-        for box in self.all(".card input[type=checkbox]"):
+        for box in self.all("#rows input[type=checkbox]"):
             self.assertRegex(box.get_attribute("aria-label"), "put .+ side by side")
-            box.click()
+            self.driver.execute_script("arguments[0].click()", box)
         verdict = self.driver.find_element(By.ID, "verdict")
-        self.until(lambda: "differ in dimension" in verdict.text)
+        self.until(lambda: "differ in dimension" in verdict.text and self.all("#pair-nets canvas"))
         self.assertLess(verdict.location["y"], self.driver.find_element(By.CSS_SELECTOR, "#pair-nets canvas").location["y"])
 
     def test_what_is_saved(self):
         self.drop("quartz.cif")
-        for button in self.all(".saves button"):
+        for button in self.all(".facts .saves button"):
             button.click()
         names = {"quartz.cgd", "quartz.report", "quartz.svg", "quartz.cif"}
         self.until(lambda: names <= {path.name for path in Path(self.home).iterdir()}, "not all is saved")
@@ -213,9 +418,9 @@ class Browser(unittest.TestCase):
             label = active.get_attribute("aria-label") or active.text or active.get_attribute("type")
             self.assertTrue(label)
             order.append((active.tag_name, active.get_attribute("type")))
-            if active.get_attribute("type") == "checkbox" and active.find_elements(By.XPATH, "ancestor::article"):
+            if active.get_attribute("type") == "checkbox" and active.find_elements(By.XPATH, "ancestor::tbody"):
                 self.press(Keys.SPACE)
-            if len(self.all(".card.chosen")) == 2:
+            if self.driver.execute_script("return chosen.length") == 2:
                 break
         self.assertIn(("canvas", None), order)
         self.assertIn(("select", "select-one"), order)
@@ -228,7 +433,7 @@ class Browser(unittest.TestCase):
         size = {"width": 360, "height": 700, "deviceScaleFactor": 1, "mobile": True}
         self.driver.execute_cdp_cmd("Emulation.setDeviceMetricsOverride", size)
         try:
-            boxes = self.all(".card input[type=checkbox]")
+            boxes = self.all("#rows input[type=checkbox]")
             for box in (boxes[0], boxes[-1]):
                 self.driver.execute_script("arguments[0].click()", box)
             self.until(lambda: not self.all(".busy"))
@@ -248,18 +453,14 @@ class Browser(unittest.TestCase):
         many = (EXAMPLES / "sql.cgd").read_text() * 30
         files = [["empty.cif", ""], ["<img src=x onerror=alert(1)>.cgd", "OTHER\nx\nEND\n"], ["many.cgd", many]]
         self.driver.execute_script(DROP, files)
-        self.until(lambda: len(self.all("#files > section")) == 3 and not self.all(".busy, [aria-busy]"))
-        told = self.driver.find_element(By.ID, "files").text
+        self.ready(3)
+        told = self.driver.find_element(By.ID, "results").text
         for words in ("the file is empty", "a block 'OTHER' is not read"):
             self.assertIn(words, told)
-        self.assertIn("30 nets, 24 are shown", told)
-        self.assertIn("no net", told)
-        self.assertEqual(self.all("#files img"), [])
-        more, = [button for button in self.all("#files button") if "show more of the 6 nets" in button.text]
-        more.click()
-        self.until(lambda: len(self.all(".card")) == 32 and not self.all(".busy, [aria-busy]"))
-        self.assertIn("30 nets", self.driver.find_element(By.ID, "files").text)
-
+        self.assertEqual((len(self.rows()), len(self.all("article")), self.all("#rows img")), (32, 2, []))
+        self.assertIn("30 nets", self.driver.find_element(By.ID, "counts").text)
+        self.click("#rows > tr:last-child .opener")
+        self.until(lambda: len(self.all("article canvas")) == 1)
 
 
 if __name__ == "__main__":

@@ -5,13 +5,17 @@ import signal
 import socket
 import subprocess
 import time
+from collections.abc import Callable, Iterator
+from contextlib import contextmanager
 from pathlib import Path
 
-from desk import DESK, Server, descendants, form_of, need_desk
-from testing import FolderTest, run
+from desk import DESK, Server, form_of, need_desk
+from testing import PROGRAM, FolderTest, run
 
 need_desk()
 
+ENDLESS = 86_399  # seconds
+PATIENCE = 120    # seconds, for a machine that has much to do
 SQL = b"PERIODIC_GRAPH\nEDGES\n1 1 1 0\n1 1 0 1\nEND\n"
 
 
@@ -100,34 +104,37 @@ class Beginning(FolderTest):
 
 
 class End(FolderTest):
+    """The worker waits for a program that never ends, so that there is one however fast or slow the machine is."""
+
+    def setUp(self):
+        super().setUp()
+        self.program = self.folder / "endless"
+        self.program.write_text(f'#!/bin/sh\n[ "$1" = identify ] && exec sleep {ENDLESS}\nexec {PROGRAM} "$@"\n')
+        self.program.chmod(0o755)
+
+    @contextmanager
+    def at_work(self) -> Iterator[tuple[Server, set[int]]]:
+        """A server whose worker waits for its program, and the processes that descend from it."""
+        server = Server(NET_TOOL=str(self.program))
+        body, kind = form_of({"file": ("a.cgd", SQL), "convention": "auto", "choices": "[]"})
+        with server.begun("nets", body, kind):
+            children = wait_for(lambda: {*server.children()}, lambda found: any(map(is_endless, found)))
+            self.assertGreaterEqual(len(children), 4)  # the server of forks, its tracker, a worker, the program
+            yield server, children
+
     def test_nothing_is_left(self):
         """While a worker is at work, with each of the signals that end it."""
         for name in (signal.SIGINT, signal.SIGTERM, signal.SIGHUP):
-            server = Server()
-            body, kind = form_of({"file": ("huge.cgd", SQL * 800_000), "first": "0", "convention": "auto", "choices": "[]"})
-            with server.begun("nets", body, kind):
-                time.sleep(0.3)
-                children = server.children()
-                self.assertGreaterEqual(len(children), 2)
+            with self.at_work() as (server, children):
                 status, _, told = server.end(name)
             self.assertEqual((status, told), (0, ""), told)
             self.assertEqual(left_of(children), set())
 
     def test_nothing_runs_on_after_it_was_killed(self):
         """By what no program hears of, while a worker is at work."""
-        server = Server()
-        body, kind = form_of({"file": ("huge.cgd", SQL * 800_000), "first": "0", "convention": "auto", "choices": "[]"})
-        with server.begun("nets", body, kind):
-            for _ in range(600):
-                children = server.children()
-                if any(descendants(child) for child in children):  # the fork server has a worker
-                    break
-                time.sleep(0.1)
-            time.sleep(0.3)
-            children = server.children()
+        with self.at_work() as (server, children):
             server.process.kill()
             server.wait()
-        self.assertGreaterEqual(len(children), 3)
         self.assertEqual(left_of(children), set())
 
     def test_ended_at_once(self):
@@ -141,14 +148,26 @@ class End(FolderTest):
             self.assertNotIn("net_desk", told)  # nor is it in a traceback of python3 itself, which begins yet
 
 
-def left_of(pids: set[int]) -> set[int]:
-    """Those that run yet after ten seconds."""
-    for _ in range(100):
-        left = {pid for pid in pids if is_running(pid)}
-        if not left:
-            break
+def wait_for(look: Callable[[], set[int]], is_enough: Callable[[set[int]], bool]) -> set[int]:
+    """What is seen once it is enough, or after PATIENCE seconds."""
+    end = time.monotonic() + PATIENCE
+    found = look()
+    while not is_enough(found) and time.monotonic() < end:
         time.sleep(0.1)
-    return left
+        found = look()
+    return found
+
+
+def left_of(pids: set[int]) -> set[int]:
+    """Those that run yet after PATIENCE seconds."""
+    return wait_for(lambda: set(filter(is_running, pids)), lambda left: not left)
+
+
+def is_endless(pid: int) -> bool:
+    try:
+        return Path(f"/proc/{pid}/cmdline").read_bytes() == b"sleep\0%d\0" % ENDLESS
+    except OSError:
+        return False
 
 
 def is_running(pid: int) -> bool:

@@ -1,6 +1,7 @@
 """The server: who may ask, what is refused, and that it goes on whatever comes."""
 
 import fcntl
+import io
 import json
 import os
 import random
@@ -10,6 +11,7 @@ import signal
 import socket
 import time
 import unittest
+import zipfile
 from concurrent.futures import ThreadPoolExecutor
 from contextlib import ExitStack
 
@@ -20,7 +22,8 @@ from testing import IS_LONG, TOP
 need_desk()
 from crystal_nets.desk.application import CHOICES, FILES, MOST_BYTES  # noqa: E402
 from crystal_nets.desk.connections import MOST_STRANGERS, SECONDS_TO_ASK  # noqa: E402
-from crystal_nets.desk.files import AT_ONCE, FITTING  # noqa: E402
+from crystal_nets.desk.files import FITTING, MOST_NETS  # noqa: E402
+from crystal_nets.desk.questions import AT_ONCE  # noqa: E402
 from crystal_nets.options import CONVENTION_NAMES as CONVENTIONS  # noqa: E402
 from crystal_nets.structures.nets.choice import Options  # noqa: E402
 from crystal_nets.structures.units.conventions import AUTO, CONVENTIONS as OF_CIF2CGD  # noqa: E402
@@ -28,6 +31,21 @@ from crystal_nets.structures.units.conventions import AUTO, CONVENTIONS as OF_CI
 QUARTZ = (TOP / "examples/quartz.cif").read_bytes()
 FORMS = 2_000 if IS_LONG else 40
 SQL = b"PERIODIC_GRAPH\nEDGES\n1 1 1 0\n1 1 0 1\nEND\n"
+NET = {"block": SQL.decode(), "name": "sql", "refusal": "",
+       "provenance": {"notes": [["other", "one"]], "convention": "", "made": "", "copies": 2, "line": 1}}
+
+
+
+def zip_of(*names: str) -> bytes:
+    """A ZIP archive of a net under each of these names."""
+    content = io.BytesIO()
+    with zipfile.ZipFile(content, "w", zipfile.ZIP_DEFLATED) as archive:
+        for name in names:
+            archive.writestr(name, SQL)
+    return content.getvalue()
+
+
+ZIP = zip_of("a.cgd", "b.cgd")
 
 
 class WithServer(unittest.TestCase):
@@ -165,7 +183,7 @@ class ManyConnections(WithServer):
 
 class WhatIsSent(WithServer):
     def test_malformed_forms(self):
-        good, kind = form_of({"file": ("a.cgd", SQL), "first": "0", "convention": "auto", "choices": "[]"})
+        good, kind = form_of({"file": ("a.cgd", SQL), "convention": "auto", "choices": "[]"})
         form = "multipart/form-data"
         for body, given in ((b"", "text/plain"), (b"x", kind), (good[:90], kind), (good, form), (b"{}", "application/json"),
                             (good, form + "; boundary=other"), (b"file=a&first=0", "application/x-www-form-urlencoded"),
@@ -173,13 +191,18 @@ class WhatIsSent(WithServer):
             self.reason(self.server.request("POST", "nets", body, Content_Type=given), 400)
 
     def test_fields_without_a_form(self):
-        fields = {"first": "0", "convention": "auto", "choices": "[]"}
-        for name, value in (("first", "-1"), ("first", "7"), ("first", "1e9"), ("first", "9" * 40), ("first", ""),
-                            ("first", "²"), ("convention", "none"), ("choices", "[1]"), ("choices", "{}"),
+        fields = {"convention": "auto", "choices": "[]"}
+        for name, value in (("convention", "none"), ("choices", "[1]"), ("choices", "{}"),
                             ("choices", '["leave_out"]'), ("choices", "[" * 5000), ("choices", "")):
             body, kind = form_of({"file": ("a.cgd", SQL), **fields, name: value})
             self.reason(self.server.request("POST", "nets", body, Content_Type=kind), 400)
-        for path in ("card", "pair", "crystal", "nets"):
+        for value in ("", "[]", "{}", "[1]", "[" * 5000, '[{"text": 1, "line": 1}]', '[{"text": "x", "line": 0}]',
+                      '[{"text": "x", "line": true}]', '[{"text": "x"}]', '[{"name": "x", "block": "", "refusal": ""}]',
+                      '[{"name": 1, "block": "", "refusal": "", "provenance": {}}]', json.dumps([{"text": "x", "line": 1}] * 1001)):
+            for path, name in (("rows", "nets"), ("card", "net")):
+                body, kind = form_of({name: value})
+                self.reason(self.server.request("POST", path, body, Content_Type=kind), 400)
+        for path in ("card", "rows", "pair", "crystal", "nets", "unzip", "atoms"):
             self.reason(self.server.request("POST", path), 400)
 
     def test_mutants_of_forms(self):
@@ -187,10 +210,11 @@ class WhatIsSent(WithServer):
         chance = random.Random(13)
         block = SQL.decode()
         forms = [(path, *form_of(fields)) for path, fields in (
-            ("nets", {"file": ("a.cgd", SQL), "first": "0", "convention": "auto", "choices": "[]"}),
-            ("nets", {"file": ("x.cif", QUARTZ), "first": "0", "convention": "all-atoms", "choices": '["keep_ions"]'}),
-            ("card", {"block": block, "name": "sql", "refusal": "",
-                      "provenance": '{"notes": [["other", "one"]], "convention": "", "made": "", "copies": 2, "line": 1}'}),
+            ("nets", {"file": ("a.cgd", SQL), "convention": "auto", "choices": "[]"}),
+            ("nets", {"file": ("x.cif", QUARTZ), "convention": "all-atoms", "choices": '["keep_ions"]'}),
+            ("card", {"net": json.dumps([NET])}), ("rows", {"nets": json.dumps([NET, {"line": 7, "text": block}])}),
+            ("unzip", {"file": ("a.zip", ZIP)}),
+            ("atoms", {"file": ("x.cif", QUARTZ), "convention": "all-atoms", "choices": "[]", "block": block}),
             ("pair", {"one": block, "other": block}), ("crystal", {"block": block, "name": "sql"}))]
         for _ in range(FORMS):
             path, body, kind = chance.choice(forms)
@@ -211,28 +235,52 @@ class WhatIsSent(WithServer):
         for name in ("../../../../etc/passwd", "/etc/passwd", "..\\..\\x.cif", "a\x00b.cif", "", ".", "..",
                      "x" * 5000 + ".cif", "a/../b.cif", "\u202e\U0001f600.cif", "%2e%2e%2f.cif"):
             answer = self.server.nets(name, QUARTZ)
-            self.assertEqual(len(answer["nets"]), 1, name[:40])
-            self.assertNotRegex(answer["nets"][0]["name"], r"[/\\\x00]")
-            self.assertLess(len(answer["nets"][0]["name"]), 200)
+            self.assertEqual(len(answer["rows"]), 1, name[:40])
+            self.assertNotRegex(answer["rows"][0]["name"], r"[/\\\x00]")
+            self.assertLess(len(answer["rows"][0]["name"]), 200)
 
-    def test_many_nets_come_some_at_a_time(self):
+    def test_many_nets_are_asked_for_without_their_file(self):
         text = b"# first\n" + SQL * 1000
         answer = self.server.nets("many.cgd", text)
-        self.assertEqual((answer["total"], len(answer["nets"])), (1000, AT_ONCE))
-        last = self.server.nets("many.cgd", text, first=str(1000 // AT_ONCE * AT_ONCE))
-        self.assertEqual(len(last["nets"]), 1000 % AT_ONCE)
-        self.assertEqual(self.server.nets("many.cgd", text, first=str(AT_ONCE * 100))["nets"], [])
-        bad = self.server.nets("bad.cgd", SQL * 30 + b"OTHER\nx\nEND\n", first=str(AT_ONCE))
-        self.assertIn("line 151:", bad["nets"][-1]["refusal"])
+        self.assertEqual((answer["total"], len(answer["rows"]), len(answer["waiting"])), (1000, AT_ONCE, 1000 - AT_ONCE))
+        rows = self.server.rows(answer["waiting"])
+        self.assertEqual(len(rows), 1000 - AT_ONCE)
+        self.assertEqual({row["names"][0]["name"].split(",")[0] for row in answer["rows"] + rows}, {"sql"})
+        self.assertEqual(rows[-1]["provenance"]["line"], 2 + 5 * 999)
+        self.assertEqual(self.server.rows([rows[0] | {"block": "no block"}])[0]["why"][:15], "No net was read")
+
+    def test_a_bad_block_knows_its_line_and_keeps_its_bytes(self):
+        bad = self.server.nets("bad.cgd", SQL * 30 + b"OTHER\nx\nEND\n" + SQL.replace(b"EDGES", b'NAME "\xff"\nEDGES'))
+        rows = self.server.rows(bad["waiting"])
+        self.assertIn("line 151:", rows[-2]["refusal"])
+        self.assertEqual((rows[-1]["refusal"], rows[-1]["names"][0]["archive"]), ("", "common"))
+
+    def test_no_more_nets_of_a_file_than_a_page_takes(self):
+        answer = self.server.nets("huge.cgd", SQL * (MOST_NETS + 5))
+        self.assertEqual((answer["total"], len(answer["waiting"])), (MOST_NETS + 5, MOST_NETS - AT_ONCE))
+
+    def test_a_zip_archive(self):
+        answer = self.server.ask("unzip", file=("x.zip", ZIP))
+        self.assertEqual([file["name"] for file in answer["files"]], ["a.cgd", "b.cgd"])
+        for content in (b"PK\x03\x04", b"", ZIP[:-40]):
+            self.assertIn("damaged", self.server.ask("unzip", file=("x.zip", content))["reason"])
+
+    def test_atoms_of_a_net(self):
+        row, = self.server.nets("x.cif", QUARTZ)["rows"]
+        fields = {"file": ("x.cif", QUARTZ), "convention": "all-atoms", "choices": "[]"}
+        answer = self.server.ask("atoms", **fields, block=row["block"])
+        self.assertEqual([unit["text"] for unit in answer["units"]][0], "Si1: Si, 4-connected")
+        self.assertIn("not drawn", self.server.ask("atoms", **fields, block=SQL.decode())["reason"])
+        self.assertIn("not drawn", self.server.ask("atoms", **{**fields, "file": ("a.cgd", SQL)}, block=SQL.decode())["reason"])
 
     def test_fifty_files_at_once(self):
         with ThreadPoolExecutor(50) as pool:
             answers = list(pool.map(lambda k: self.server.nets(f"{k}.cgd", SQL.replace(b"EDGES", b"NAME n%d\nEDGES" % k)),
                                     range(50)))
-        self.assertEqual([answer["nets"][0]["name"] for answer in answers], [f"n{k}" for k in range(50)])
+        self.assertEqual([answer["rows"][0]["name"] for answer in answers], [f"n{k}" for k in range(50)])
 
     def test_clients_that_go_away(self):
-        body, kind = form_of({"file": ("a.cgd", SQL * 2000), "first": "0", "convention": "auto", "choices": "[]"})
+        body, kind = form_of({"file": ("a.cgd", SQL * 2000), "convention": "auto", "choices": "[]"})
         for most in (40, 300, 1000, len(body) + 1000):
             for _ in range(3):
                 self.server.begun("nets", body, kind, most).close()
@@ -242,7 +290,7 @@ class WhatIsSent(WithServer):
         self.assertEqual(list(CONVENTIONS), [*OF_CIF2CGD, AUTO])
         self.assertLessEqual(set(CHOICES), set(Options.__dataclass_fields__))
         page = FILES[""][0].read_text()
-        self.assertEqual(re.findall(r'<option value="([^"]+)"', page), [FITTING, *CONVENTIONS])
+        self.assertEqual(re.findall(r'<option value="([^"]+)"', page[:page.index("</select>")]), [FITTING, *CONVENTIONS])
         self.assertEqual(re.findall(r'type="checkbox" value="([^"]+)"', page), list(CHOICES))
 
 
@@ -258,7 +306,7 @@ class Bombs(WithServer):
                               ("blocks.cif", b"data_x\n_a 1\n" * 300_000)):
             begun = time.monotonic()
             answer = self.server.nets(name, content)
-            told = answer.get("reason") or answer["nets"][0]["refusal"]
+            told = answer.get("reason") or answer["rows"][0]["refusal"]
             self.assertTrue(told, name)
             self.assertNotIn("Traceback", told)
             self.assertLess(time.monotonic() - begun, 100, name)
@@ -269,16 +317,16 @@ class Bombs(WithServer):
         if "reason" in answer:
             self.assertRegex(answer["reason"], "stopped")
         else:
-            self.assertEqual((answer["total"], len(answer["nets"])), (400_000, AT_ONCE))
+            self.assertEqual((answer["total"], len(answer["rows"])), (400_000, AT_ONCE))
 
     def test_a_worker_that_is_killed(self):
         before = self.server.children()
         with ThreadPoolExecutor(1) as pool:
             waiting = pool.submit(self.server.nets, "huge.cgd", SQL * 800_000)
-            for _ in range(400):
+            for _ in range(6000):
                 time.sleep(0.02)
                 new = self.server.children() - before
-                if new:
+                if new or waiting.done():
                     break
             for pid in new:
                 try:
@@ -289,9 +337,9 @@ class Bombs(WithServer):
 
     def test_work_ends_where_nobody_waits(self):
         before = self.server.children()
-        body, kind = form_of({"file": ("huge.cgd", SQL * 800_000), "first": "0", "convention": "auto", "choices": "[]"})
+        body, kind = form_of({"file": ("huge.cgd", SQL * 800_000), "convention": "auto", "choices": "[]"})
         self.server.begun("nets", body, kind).close()
-        for _ in range(300):
+        for _ in range(1200):
             time.sleep(0.1)
             if self.server.children() <= before:
                 return

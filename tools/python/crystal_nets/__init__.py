@@ -19,6 +19,7 @@ maps       same: whether two nets are isomorphic, with the map
 parts      components: what interpenetrates
 covers     cover: a net on a larger cell
 groups     group: which of many nets are the same
+twins      without_twins: vertices with the same neighbours made one
 archive    archives of named nets, in memory
 json_forms  nets and answers as dicts, and back
 symbols    the symbols that names begin with, as dia
@@ -74,13 +75,14 @@ if TYPE_CHECKING:
     from .reading import read
     from .streams import identify_each
     from .tables.columns import read_table
+    from .twins import without_twins
 
 __version__ = "0.1"
 __all__ = ["Answer", "Answers", "Archive", "By", "Component", "Components", "Cover", "CrystalNetsError", "Group", "Groups",
            "Meeting", "Net", "NetMap", "NotANet", "NotATable", "NotAnArchive", "NotAnOption", "Outcome", "PackageMissing",
            "Placement", "PrimitiveGraph", "ProgramFailed", "ProgramNotFound", "ProgramTimedOut", "Sameness",
            "StructureOptions", "check", "components", "cover", "find_program", "group", "identify", "identify_all",
-           "identify_each", "keys", "net_of_key", "read", "read_table", "same", "svg", "to_pandas"]
+           "identify_each", "keys", "net_of_key", "read", "read_table", "same", "svg", "to_pandas", "without_twins"]
 
 HOMES = {"answers": "Answer Answers By Placement PrimitiveGraph to_pandas", "archive": "Archive",
          "asking": "identify identify_all keys", "checking": "check", "covers": "Cover cover", "drawing": "svg",
@@ -90,7 +92,7 @@ HOMES = {"answers": "Answer Answers By Placement PrimitiveGraph to_pandas", "arc
          "options": "StructureOptions", "outcome": "Outcome",
          "parts": "Component Components components net_of_key", "program": "find_program", "reading": "read",
          "streams": "identify_each",
-         "tables.columns": "read_table"}
+         "tables.columns": "read_table", "twins": "without_twins"}
 HOME_OF = {name: module for module, names in HOMES.items() for name in names.split()}
 
 

@@ -262,6 +262,12 @@ class Answer:
         return self.outcome.accepted
 
     @property
+    def advice(self) -> str:
+        """What may be done where two vertices come to stand in one place; empty for other nets."""
+        from .twins import advice_on
+        return "" if self.accepted else advice_on(self.net, self.outcome)
+
+    @property
     def doubts(self) -> tuple[str, ...]:
         """Those of the notes that tell where another reading gives another net."""
         return self.net.doubts
@@ -310,7 +316,8 @@ class Answer:
         what = "; ".join(self.names) or ("no name in the archive" if self.accepted else str(self.outcome))
         told = f" ({self.by}; {self.outcome})" if self.names and not self.accepted else ""
         woven = f", one of {self.copies} interwoven copies" if self.copies > 1 else ""
-        return f"{self.name or 'net'}: {what}{told}{woven}"
+        advice = f"; {self.advice}" if self.advice and not self.names else ""
+        return f"{self.name or 'net'}: {what}{told}{woven}{advice}"
 
     def _repr_svg_(self) -> str | None:
         from .drawing import svg_of_answer

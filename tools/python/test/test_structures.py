@@ -3,13 +3,14 @@
 import dataclasses
 import json
 import sys
+import time
 import unittest
 from pathlib import Path
 
 from testing import IS_LONG, TOOLS, TOP, FolderTest, long_test, need_modules, need_program, run
 
 from crystal_nets import (Archive, Net, NotANet, NotAnOption, StructureOptions, components, identify,  # noqa: E402
-                          identify_all, read, same)
+                          identify_all, read, same, without_twins)
 from crystal_nets.provenance import Provenance  # noqa: E402
 
 ROCK_SALT = """data_rock_salt
@@ -229,6 +230,36 @@ class Ase(StructureTest):
         layer.set_pbc((True, True, False))
         self.assertEqual(self.name_of(layer), "hcb")
         self.assertIn("1 molecule", self.name_of(molecule("C6H6")))
+
+    def test_a_cell_of_thousands_of_atoms(self):
+        """The time is that of this process, so that other work beside it counts little."""
+        from ase.spacegroup import crystal
+        cell = crystal(["Na", "Cl"], [(0, 0, 0), (0.5, 0.5, 0.5)], spacegroup=225, cellpar=[5.64] * 3 + [90] * 3)
+        begun = time.process_time()
+        self.assertEqual(self.name_of(cell.repeat(12)), "pcu")  # 13,824 atoms
+        self.assertLess(time.process_time() - begun, 20)
+
+    def test_a_monolayer_whose_sides_collide(self):
+        from ase.build import mx2
+        answer = identify(mx2("MoS2"), archive=self.archive)
+        self.assertEqual((answer.outcome.name, answer.key), ("Collision", ""))
+        self.assertIn("without_twins makes one vertex", answer.advice)
+        self.assertIn(answer.advice, str(answer))
+        side = without_twins(answer.net)
+        self.assertEqual(self.name_of(side), "hcb")
+        self.assertIn("1 vertex left out", side.notes[-1])
+        self.assertEqual((without_twins(side), self.answer_without_advice()), (side, ""))
+
+    def answer_without_advice(self) -> str:
+        return identify([(1, 1, (1, 0)), (1, 1, (0, 1))], archive=None).advice
+
+    def test_others_that_collide(self):
+        collision = [(1, 2, (0, 0, 0)), (1, 3, (0, 0, 0)), (2, 4, (0, 0, 0)), (3, 4, (0, 0, 0)), (4, 1, (1, 0, 0)),
+                     (1, 1, (0, 1, 0)), (4, 4, (0, 0, 1))]
+        self.assertIn("2 and 3 have the same neighbours", identify(collision, archive=None).advice)
+        other = [*collision, (2, 2, (0, 0, 1)), (3, 3, (0, 0, 1))]
+        self.assertIn("come to stand in one place: see", identify(other, archive=None).advice)
+        self.assertEqual(len(without_twins(Net(other)).vertices), 4)
 
     def test_atoms_that_are_no_crystal_are_refusals(self):
         from ase import Atoms

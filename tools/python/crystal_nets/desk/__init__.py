@@ -12,10 +12,14 @@ worker       processes with limits, one for each question, and what became of th
 warm         what these processes share: the modules and the archives, loaded once
 archives     the archives by their files, each with its names or the reason why it is not read
 questions    what is asked: the nets of a file, the card of a net, a pair of nets, a crystal
-files        from a file to some of its nets
+files        from a file to its nets
+zips         the files of a ZIP archive
 kinds        what a file is that has no net
+rows         what the table tells of nets
 cards        what is told and drawn of a net
 beyond       names of a net without a key, by verified maps
+atoms        the structure beside its net
+colours      the colours of elements
 pairs        whether two nets are the same, or what differs first
 woven        interwoven nets in one picture, each copy in a colour
 reasons      why there is no key, in a chemist's words, and what to do

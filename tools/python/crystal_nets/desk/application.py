@@ -15,16 +15,18 @@ from ..pictures.text import PALETTE
 from ..provenance import Provenance
 from . import questions
 from .connections import Connections
-from .files import AT_ONCE, FITTING, content_of, shown_name
+from .files import FITTING, content_of, shown_name
 from .guard import MOST_BYTES, TOO_LARGE, Guard, Rejected, with_headers
 from .worker import ClientGone, NoAnswer, Workers
 
 PAGE = Path(__file__).with_name("page")
 VIEWER = Path(__file__).resolve().parents[1] / "pictures/viewer.js"
+SCRIPTS = ("work.js", "cards.js", "structure.js", "table.js", "zip.js", "sources.js", "pairs.js", "desk.js")
 FILES = {"": (PAGE / "desk.html", "text/html"), "desk.css": (PAGE / "desk.css", "text/css"),
-         "desk.js": (PAGE / "desk.js", "text/javascript"), "cards.js": (PAGE / "cards.js", "text/javascript"),
+         **{name: (PAGE / name, "text/javascript") for name in SCRIPTS},
          "viewer.js": (VIEWER, "text/javascript"), "icon.svg": (PAGE / "icon.svg", "image/svg+xml")}
 CHOICES = ("keep_ions", "hydrogen_bonds", "partial_as_full", "accept_misfit", "every_copy")
+MOST_ROWS = 1000  # of one question
 GONE = 499  # nobody reads it
 NOT_THERE = "there is nothing at this address"
 
@@ -103,13 +105,19 @@ def add_questions(app: Flask, workers: Workers, connections: Connections) -> Non
         return ask(questions.archives)
 
     def nets(token: str) -> Response:
-        file = request.files.get("file")
-        if file is None:
-            raise BadRequest("the form has no file")
-        return ask(questions.nets, shown_name(file.filename or ""), file.read(), whole_number("first"), options_of_form())
+        return ask(questions.nets, *file_of_form(), options_of_form())
+
+    def unzip(token: str) -> Response:
+        return ask(questions.unzip, file_of_form()[1])
+
+    def rows(token: str) -> Response:
+        return ask(questions.rows, nets_of_form("nets"))
 
     def card(token: str) -> Response:
-        return ask(questions.card, text("block").encode(), text("name"), provenance(), text("refusal"))
+        return ask(questions.card, nets_of_form("net", most=1)[0])
+
+    def atoms(token: str) -> Response:
+        return ask(questions.atoms, *file_of_form(), options_of_form(), text("block").encode())
 
     def pair(token: str) -> Response:
         return ask(questions.pair, text("one").encode(), text("other").encode())
@@ -118,7 +126,7 @@ def add_questions(app: Flask, workers: Workers, connections: Connections) -> Non
         return ask(questions.crystal, text("block").encode(), text("name"))
 
     app.add_url_rule("/<token>/archives", "archives", archives)
-    for name, work in (("nets", nets), ("card", card), ("pair", pair), ("crystal", crystal)):
+    for name, work in (("nets", nets), ("unzip", unzip), ("rows", rows), ("card", card), ("atoms", atoms), ("pair", pair), ("crystal", crystal)):
         app.add_url_rule(f"/<token>/{name}", name, work, methods=["POST"])
 
 
@@ -130,29 +138,50 @@ def text(name: str) -> str:
     return value.replace("\r\n", "\n").encode(errors="replace").decode()  # a browser sends each line end as two bytes
 
 
-def whole_number(name: str) -> int:
-    value = text(name)
-    if not value.isascii() or not value.isdecimal() or len(value) > 9 or int(value) % AT_ONCE:
-        raise BadRequest(f"{name} is no number of a first net")
-    return int(value)
+def file_of_form() -> tuple[str, bytes]:
+    """The name of the file, as it is shown, and its content."""
+    file = request.files.get("file")
+    if file is None:
+        raise BadRequest("the form has no file")
+    return shown_name(file.filename or ""), file.read()
+
+
+def json_of_form(name: str) -> Any:
+    try:
+        return json.loads(text(name))
+    except (ValueError, RecursionError):
+        raise BadRequest(f"{name} is no JSON") from None
 
 
 def list_of_texts(name: str) -> list[str]:
-    try:
-        values = json.loads(text(name))
-    except (ValueError, RecursionError):
-        values = None
+    values = json_of_form(name)
     if not isinstance(values, list) or not all(isinstance(value, str) for value in values):
         raise BadRequest(f"{name} is no list of texts")
     return values
 
 
-def provenance() -> Provenance:
-    """What `nets` told of how the net was made."""
+def nets_of_form(name: str, most: int = MOST_ROWS) -> list[dict[str, Any]]:
+    """Nets as the page was told of them: blocks that wait to be read, or nets with their provenance."""
+    items = json_of_form(name)
+    if not isinstance(items, list) or not 1 <= len(items) <= most or not all(isinstance(item, dict) for item in items):
+        raise BadRequest(f"{name} is no list of nets")
     try:
-        return Provenance.from_dict(json.loads(text("provenance")))
-    except (ValueError, OverflowError, RecursionError):
-        raise BadRequest("provenance is not as it was told") from None
+        for item in items:
+            check_net(item)
+    except (ValueError, TypeError, KeyError, OverflowError, RecursionError):
+        raise BadRequest(f"{name} has a net that is not as it was told") from None
+    return items
+
+
+def check_net(item: dict[str, Any]) -> None:
+    """Raises one of several faults where a net is not as the page was told of it."""
+    if "text" in item:
+        if not isinstance(item["text"], str) or type(item["line"]) is not int or item["line"] < 1:
+            raise ValueError("no block")
+        return
+    if not all(isinstance(item[part], str) for part in ("name", "block", "refusal")):
+        raise ValueError("no net")
+    Provenance.from_dict(item["provenance"])
 
 
 def options_of_form() -> dict[str, Any]:

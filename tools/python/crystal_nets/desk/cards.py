@@ -15,8 +15,7 @@ from ..parts import Component, components
 from ..pictures.page import card_of
 from ..pictures.placed import NotPlaced, placed_net
 from ..pictures.shape import Shape
-from ..pictures.svg import picture
-from ..pictures.text import label_of, printable
+from ..pictures.text import printable
 from ..pictures.view import view_of
 from ..program import run
 from ..symbols import rcsr_address
@@ -74,7 +73,7 @@ def _of_key(net: Net, report: NetReport) -> dict[str, Any]:
         raise ProgramFailed(f"the report of the program is damaged: {fault}") from None
     shape = Shape(placed)
     view = view_of(shape)
-    done |= {"cell": _cell(shape), "picture": card_of(report, view), "svg": picture(view, label_of(report))}
+    done |= {"cell": _cell(shape), "picture": card_of(report, view)}
     drawn = woven_copies(net, placed, net.copies)
     return {**done, "woven": asdict(drawn)} if drawn else done
 
@@ -120,7 +119,7 @@ def _picture_of_smaller_cell(found: Naming) -> dict[str, Any]:
         shown = _of_key(found.small.net, found.small.report)
     except ProgramFailed:
         return {}
-    return {part: shown[part] for part in ("sequences", "scale", "classes", "cell", "picture", "svg")}
+    return {part: shown[part] for part in ("sequences", "scale", "classes", "cell", "picture")}
 
 
 def _told_parts(parts: tuple[Component, ...]) -> list[dict[str, Any]]:

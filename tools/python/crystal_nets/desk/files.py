@@ -1,11 +1,10 @@
-"""From a file to some of its nets: a page shows a few at once, and the rest on request."""
+"""From a file to its nets. Blocks are parted, and read when they are asked for."""
 
 from __future__ import annotations
 
 import errno
 import os
 import stat
-from collections.abc import Iterable, Iterator
 from dataclasses import dataclass, field
 from io import BytesIO
 from pathlib import Path, PurePosixPath
@@ -14,21 +13,36 @@ from typing import Any
 from ..errors import NotANet
 from ..net import Net
 from ..other_forms import is_json
-from ..reading import holds_structure, read, unpacked
+from ..reading import holds_structure, net_of_chunk, read, unpacked
 from ..texts.net_text import Chunk, chunks_of
 from .kinds import kind_of
 
-AT_ONCE = 24        # nets of a file
+MOST_NETS = 20_000  # of a file; net_table takes more
 MOST_BYTES = 64 * 2**20  # of a file, unpacked
 FITTING = "fitting"  # the convention that fits the file
 LONGEST_NAME = 120  # letters of a name that are shown
 
 
-@dataclass
-class Some:
-    """Some nets of a file, and how many it has."""
+@dataclass(frozen=True)
+class Unread:
+    """A block as its text has it, and the line of the file that it begins at."""
 
-    nets: list[Net] = field(default_factory=list)
+    line: int
+    text: bytes
+
+    def net(self) -> Net:
+        """The net of the block, or why it gives none."""
+        try:
+            return net_of_chunk(Chunk(self.line, self.line, list(BytesIO(self.text))))
+        except NotANet as reason:  # a text of another kind
+            return Net.refused(str(reason))
+
+
+@dataclass
+class Found:
+    """The nets of a file, MOST_NETS at most, and how many it has."""
+
+    nets: list[Net | Unread] = field(default_factory=list)
     total: int = 0
 
 
@@ -50,8 +64,8 @@ def content_of(path: Path, most: int) -> bytes:
         return file.read(most)
 
 
-def nets_of_file(name: str, content: bytes, first: int, options: dict[str, Any]) -> Some:
-    """The nets of a file from a number on, AT_ONCE at most. NotANet where there are none at all."""
+def nets_of_file(name: str, content: bytes, options: dict[str, Any]) -> Found:
+    """The nets of a file. NotANet where there are none at all."""
     content, name = unpacked(content, name, MOST_BYTES)
     if not content.strip():
         raise NotANet("the file is empty")
@@ -59,35 +73,27 @@ def nets_of_file(name: str, content: bytes, first: int, options: dict[str, Any])
     if kind and not is_json(content):
         raise NotANet(f"it is {kind}")
     if is_json(content) or holds_structure(content, name):
-        nets = read(content, name=name, **_fitting(options))
-        found = Some(nets[first:first + AT_ONCE], len(nets))
+        nets = read(content, name=name, **fitting(options))
+        found = Found([*nets[:MOST_NETS]], len(nets))
     else:
-        found = _of_blocks(content, first)
+        found = _of_blocks(content)
     if not found.total:
         raise NotANet("no net was found in it")
     return found
 
 
-def _fitting(options: dict[str, Any]) -> dict[str, Any]:
+def fitting(options: dict[str, Any]) -> dict[str, Any]:
     """The options without a convention where it is to fit the file: that is what is taken where none is named."""
     return {name: value for name, value in options.items() if (name, value) != ("convention", FITTING)}
 
 
-def _of_blocks(content: bytes, first: int) -> Some:
-    """Only the blocks that are shown are read; the others are counted."""
-    found = Some()
-    for chunk in _with_blocks(chunks_of(BytesIO(content))):
-        if first <= found.total < first + AT_ONCE:
-            found.nets += _nets_of_chunk(chunk)
+def _of_blocks(content: bytes) -> Found:
+    """The blocks as they stand; what is past MOST_NETS is counted alone."""
+    found = Found()
+    for chunk in chunks_of(BytesIO(content)):
+        if not chunk.opening_line:
+            continue
+        if found.total < MOST_NETS:
+            found.nets.append(Unread(chunk.opening_line, b"".join(chunk.block_lines)))
         found.total += 1
     return found
-
-
-def _with_blocks(chunks: Iterable[Chunk]) -> Iterator[Chunk]:
-    return (chunk for chunk in chunks if chunk.opening_line)
-
-
-def _nets_of_chunk(chunk: Chunk) -> list[Net]:
-    """The net of one block. Empty lines before it make its lines those of the file."""
-    text = b"\n" * (chunk.opening_line - 1) + b"".join(chunk.block_lines)
-    return read(text, name="block.cgd")

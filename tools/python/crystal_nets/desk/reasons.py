@@ -31,7 +31,8 @@ REFUSALS = {
         "There is no key in this cell. A name is looked for all the same: on a smaller cell, and by a map that the program "
         "verifies."),
     5: ("Two vertices come to stand in one place when each is put at the mean of its neighbours.",
-        "Such a net has a placement and no key. Look whether the two should be one vertex, or a bond is missing."),
+        "Such a net has a placement and no key. Look whether the two should be one vertex, as the two sides of a layer that "
+        "have the same neighbours, or a bond is missing. In Python crystal_nets.without_twins makes such sides one."),
     6: ("It has so many ways to be laid out that to compare them all would pass a work of 1,000,000,000.",
         "Read it by another convention, with fewer vertices."),
     7: ("Its placement could not be computed: modulo each of three fixed numbers a sum has no inverse.",

@@ -20,8 +20,7 @@ from ..pictures.metric import standard_gram
 from ..pictures.page import card_of
 from ..pictures.placed import Placed
 from ..pictures.shape import Shape
-from ..pictures.svg import Drawing
-from ..pictures.text import PALETTE, printable
+from ..pictures.text import printable
 from ..pictures.view import view_of
 from ..program import run
 from ..structures.nets.pieces import Piece, pieces_of
@@ -41,18 +40,10 @@ OF_FILE = ("Each copy has a colour. How the copies stand to each other is told b
 
 @dataclass(frozen=True)
 class Woven:
-    """A picture of interwoven nets: what the page draws from, its SVG, and what is to be known of it."""
+    """A picture of interwoven nets: what the page draws from, and what is to be known of it."""
 
     picture: dict[str, Any]
-    svg: str
     told: str
-
-
-class Coloured(Drawing):
-    """A picture whose edges have the colours of their vertices."""
-
-    def edge_colour(self, tail: int) -> str:
-        return PALETTE[self.shape.kind[self.window.classes[tail]] % len(PALETTE)]
 
 
 def woven(net: Net) -> Woven | None:
@@ -109,7 +100,7 @@ def _drawn(net: Net, parts: list[Piece], placed: list[np.ndarray], told: str) ->
     label = printable(net.name) or "interwoven nets"
     card = card_of(NetReport(1, 1, label.encode()), view)
     card |= {"isWoven": True, "summary": f"{len(set(copy_of))} interwoven copies, {degrees}-connected, {shape.system} cell"}
-    return Woven(card, Coloured(view).text(label), told)
+    return Woven(card, told)
 
 
 def _union(parts: list[Piece], placed: list[np.ndarray]) -> tuple[Placed, list[int]]:

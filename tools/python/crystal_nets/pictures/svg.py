@@ -55,15 +55,11 @@ class Drawing:
     def _edges(self) -> None:
         points = self.lens.seen(self.window.spots)
         tails, heads = np.array(self.window.whole, int).reshape(-1, 2).T
-        colours = [self.edge_colour(tail) for tail in tails.tolist()]
+        colours = [EDGE] * len(tails)
         self._lines(self._surfaces(points[tails], points[heads]), self._surfaces(points[heads], points[tails]), colours,
                     self.width)
         starts, ends = points[[tail for tail, _ in self.window.leaving]], self.lens.seen(self.view.stubs)
         self._lines(self._surfaces(starts, ends), ends, [LEAVING] * len(ends), self.width * 0.8)
-
-    def edge_colour(self, tail: int) -> str:
-        """Of a whole edge, by the number of the spot that it begins at."""
-        return EDGE
 
     def _surfaces(self, starts: np.ndarray, ends: np.ndarray) -> np.ndarray:
         """Where each way leaves the ball of its start, so that nothing is drawn over it."""

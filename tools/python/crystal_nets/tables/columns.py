@@ -15,8 +15,10 @@ if TYPE_CHECKING:
     import pandas
 
 OF_A_PIECE = ("source", "line", "name", "outcome", "dimension", "vertices", "edges", "classes", "D0", "copies", "key",
-              "sequences", "notes", "reason", "by", "index", "small_key", "certificate", "block")
-TABLE = ("number", *OF_A_PIECE[:OF_A_PIECE.index("notes")], "group", "names", "by", "index", "notes")
+              "sequences", "convention", "doubts", "left_out", "components", "notes", "reason", "by", "index", "small_key",
+              "certificate", "block")
+OF_READING = ("convention", "doubts", "left_out", "components", "notes")  # how a structure was read
+TABLE = ("number", *OF_A_PIECE[:OF_A_PIECE.index("convention")], "group", "names", "by", "index", *OF_READING)
 NUMBERS = ("number", "line", "dimension", "vertices", "edges", "classes", "D0", "copies", "group")
 QUOTE_NONE = 3  # of the module csv
 MARKS = {**{bytes((byte,)).decode("latin-1"): text.decode() for byte, text in ESCAPES.items()}, '"': "\\x22"}
@@ -45,8 +47,8 @@ def line_of(fields: tuple[str, ...]) -> bytes:
 
 def read_table(path: str | os.PathLike[str]) -> pandas.DataFrame:
     """The table that net_table made, of its folder or file, as a `pandas.DataFrame`. Numbers that are not there are NA,
-    texts are empty. The fields `sequences`, `names` and `notes` have `;` between their parts, as README.md of
-    tools/batch says. NotATable where it is none, or is cut."""
+    texts are empty. The fields `sequences`, `names`, `doubts`, `left_out`, `components` and `notes` have `;` between their
+    parts, as README.md of tools/batch says. NotATable where it is none, or is cut."""
     try:
         import pandas
     except ImportError as missing:

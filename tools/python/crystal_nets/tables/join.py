@@ -23,7 +23,7 @@ from ..archive import Archive
 from ..asking import keys
 from ..net import Net
 from ..side_by_side import end_with_parent
-from .columns import OF_A_PIECE, TABLE, joined, line_of, plain
+from .columns import OF_A_PIECE, OF_READING, TABLE, joined, line_of, plain
 from .piece import rows_of
 from .plan import Failed, Plan
 from .sorting import merged_lines, sorted_lines
@@ -32,7 +32,7 @@ FILES = ("table.tsv", "groups.tsv", "names.tsv", "refused.tsv")
 WRITTEN_BY_PARTS = ("table.tsv", "names.tsv", "refused.tsv")
 HEADS = {"table.tsv": TABLE, "groups.tsv": ("group", "number", "name", "by"), "names.tsv": ("number", "name", "name_in_archive"),
          "refused.tsv": ("number", "source", "line", "name", "outcome", "reason")}
-FOR_TABLE = OF_A_PIECE.index("notes")  # fields of a piece that stand in the table as they are
+FOR_TABLE = OF_A_PIECE.index("convention")  # fields of a piece that stand in the table as they are
 FOR_REFUSED = OF_A_PIECE.index("outcome") + 1
 BY_KEY, SMALLER_CELL, BY_MAP = (str(by).encode() for by in (By.KEY, By.SMALLER_CELL, By.VERIFIED_MAP))
 AT_A_TIME = 32  # pieces
@@ -152,7 +152,7 @@ class Source:
                 by = found.by or (BY_MAP if number in task.by_maps else b"")
                 told = joined(found.names).encode(errors="surrogateescape")
                 table.write(b"\t".join((b"%d" % number, *row.fields[:FOR_TABLE], b"%d" % first if first else b"", told, by,
-                                        row["index"], row["notes"])) + b"\n")
+                                        row["index"], *map(row.__getitem__, OF_READING))) + b"\n")
                 for name in found.names:
                     names.write(b"%d\t%s\t%s" % (number, row["name"], line_of((joined((name,)),))))
                 if not row["key"]:

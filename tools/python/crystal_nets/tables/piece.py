@@ -99,7 +99,14 @@ def _row(source: str, answer: Answer) -> bytes:
     small_key = answer.small.key if answer.small else ""
     block = answer.net.block.decode(errors="surrogateescape") if answer.index and not small_key else ""
     fields = (escaped(source), at, escaped(answer.name), short_outcome(answer.outcome), dimension, vertices, edges, classes,
-              scale, copies, answer.key, sequences, joined(answer.notes), escaped(reason), str(answer.by), answer.index,
+              scale, copies, answer.key, sequences, *_of_reading(answer.net), escaped(reason), str(answer.by), answer.index,
               small_key, escaped(answer.certificate), escaped(block))
     assert len(fields) == len(OF_A_PIECE)
     return line_of(fields)
+
+
+def _of_reading(net: Net) -> tuple[str, ...]:
+    """How the net was read, in the order of OF_READING: doubts and what was left out stand apart from the other notes."""
+    provenance = net.provenance
+    return (provenance.convention, joined(provenance.doubts), joined(provenance.left_out),
+            joined(tuple(map(str, provenance.components))), joined(provenance.remarks))

@@ -4,6 +4,7 @@
 const palette = document.documentElement.dataset.palette.split(' ');
 const dark = matchMedia('(prefers-color-scheme: dark)');
 const pictures = new Map();  // of each canvas its picture
+const element = id => document.getElementById(id);
 
 // An element with properties and children; those that are empty are left out.
 function make(tag, properties, ...children) {
@@ -16,26 +17,37 @@ function make(tag, properties, ...children) {
   return made;
 }
 
-const count = (number, one, many) => `${number} ${number === 1 ? one : many}`;
+const count = (number, one, many) => `${number.toLocaleString('en')} ${number === 1 ? one : many}`;
 const theme = () => dark.matches ? DARK : LIGHT;
 
 dark.addEventListener('change', () => pictures.forEach(picture => {
   picture.theme = theme();
+  picture.colours.clear();
   picture.paint();
 }));
 
-// A picture that is painted when it comes into sight, and is turned by dragging and by keys.
+// Works that wait until their element comes into sight.
+const works = new WeakMap();
 const sight = new IntersectionObserver(entries => entries.filter(entry => entry.isIntersecting).forEach(entry => {
-  pictures.get(entry.target)?.paint();
   sight.unobserve(entry.target);
+  works.get(entry.target)?.();
 }), { rootMargin: '300px' });
 
-function pictureOf(net) {
-  const canvas = make('canvas', { width: 620, height: 620, tabIndex: 0, role: 'img',
-    'aria-label': `picture of ${net.name}: ${net.summary}. Arrow keys turn it, plus and minus change its size` });
+function whenInSight(place, work) {
+  works.set(place, work);
+  sight.observe(place);
+}
+
+// A picture that is painted when it comes into sight, and is turned by dragging and by keys; a small one is not.
+function pictureOf(net, name, size = 620, isTurned = true) {
+  const canvas = make('canvas', { width: size, height: size, role: 'img',
+    'aria-label': `picture of ${name}: ${net.summary}${isTurned ? '. Arrow keys turn it, plus and minus change its size' : ''}` });
   pictures.set(canvas, new Picture(canvas, net, palette, theme()));
-  makeTurnable(canvas, () => pictures.get(canvas), false);
-  sight.observe(canvas);
+  if (isTurned) {
+    canvas.tabIndex = 0;
+    makeTurnable(canvas, () => pictures.get(canvas), false);
+  }
+  whenInSight(canvas, () => pictures.get(canvas)?.paint());
   return canvas;
 }
 
@@ -74,10 +86,17 @@ function sizesOf(card) {
     ['sequences', shells.length ? make('span', {}, ...shells) : '']]);
 }
 
-function notesOf(notes) {
-  if (!notes.length) return null;
-  return make('div', {}, make('p', { className: 'dim' }, 'What is to be known of how it was read:'),
-    make('ul', { className: 'notes' }, ...notes.map(note => make('li', {}, note))));
+// Texts below what they are.
+function textsOf(title, texts, kind = '') {
+  if (!texts?.length) return null;
+  return make('div', { className: kind }, make('p', { className: 'dim' }, title),
+    make('ul', { className: 'notes' }, ...texts.map(text => make('li', {}, text))));
+}
+
+// What is to be known of how it was read: doubts apart from what was left out, and from the rest.
+function notesOf({ notes, doubts, left_out: leftOut, components }) {
+  return [textsOf('In doubt:', doubts, 'doubts'), textsOf('Left out:', leftOut), textsOf('The structure consists of:', components),
+    textsOf('What is to be known of how it was read:', notes)];
 }
 
 // Why there is no key, in words, with what to do.
@@ -100,61 +119,71 @@ function partsOf(parts) {
     part.key ? part.names.map(({ name }) => name).join('; ') || 'a net without a name in the archives' : part.reason.what)));
 }
 
+// A name as a file may have it.
+const plainName = name => name.replace(/[^A-Za-z0-9._-]+/g, '_').replace(/^[._]+/, '').slice(0, 60) || 'net';
+
 // A file that the browser saves; it is made here, and comes from nowhere.
 function save(name, ending, text, kind = 'text/plain') {
-  const stem = name.replace(/[^A-Za-z0-9._-]+/g, '_').replace(/^[._]+/, '').slice(0, 60) || 'net';
   const address = URL.createObjectURL(new Blob([text], { type: kind }));
-  make('a', { href: address, download: `${stem}${ending}` }).click();
+  make('a', { href: address, download: `${plainName(name)}${ending}` }).click();
   setTimeout(() => URL.revokeObjectURL(address), 60000);
 }
 
-function savesOf(card, askCrystal) {
-  const svg = card.svg || card.woven?.svg;
+function savesOf(card, article) {
   const button = (label, work) =>
-    make('button', { type: 'button', onclick: work, 'aria-label': `Save ${label} of ${card.name}` }, `Save ${label}`);
+    make('button', { type: 'button', onclick: work, 'aria-label': `Save ${label} of ${card.title}` }, `Save ${label}`);
   return make('div', { className: 'saves' },
-    card.block && button('.cgd', () => save(card.name, '.cgd', card.block)),
-    card.report && button('report', () => save(card.name, '.report', card.report)),
-    card.beyond?.certificate && button('map', () => save(card.name, '.maps', card.beyond.certificate)),
-    svg && button('SVG', () => save(card.name, '.svg', svg, 'image/svg+xml')),
-    card.key && button('CIF', async event => {
-      event.target.disabled = true;
-      const crystal = await askCrystal(card);
-      event.target.disabled = false;
-      if (crystal.cif) save(card.name, '.cif', crystal.cif, 'chemical/x-cif');
-      else event.target.after(make('span', { role: 'status' }, `no CIF: ${crystal.reason}`));
-    }));
+    card.block && button('.cgd', () => save(card.title, '.cgd', card.block)),
+    card.report && button('report', () => save(card.title, '.report', card.report)),
+    card.beyond?.certificate && button('map', () => save(card.title, '.maps', card.beyond.certificate)),
+    (card.picture || card.woven) && button('SVG', () => saveSeen(article.querySelector('.views canvas'), card.title)),
+    card.key && button('CIF', event => saveCrystal(card, event.target)));
+}
+
+// The view that is seen.
+function saveSeen(canvas, title, ending = '.svg') {
+  save(title, ending, pictures.get(canvas).svg(title), 'image/svg+xml');
+}
+
+async function saveCrystal(card, button) {
+  button.disabled = true;
+  const crystal = await ask('crystal', { block: card.block, name: card.name });
+  button.disabled = false;
+  if (crystal.cif) save(card.title, '.cif', crystal.cif, 'chemical/x-cif');
+  else button.after(make('span', { role: 'status' }, `no CIF: ${crystal.reason}`));
 }
 
 // The picture of a net, and that of its interwoven copies; a button changes between them where there are both.
-function picturesOf(card) {
-  const views = [card.picture && { picture: card.picture }, card.woven].filter(view => view);
+function picturesOf(card, name) {
+  const views = [card.picture && { picture: card.picture }, card.woven].filter(one => one);
   if (!views.length) return null;
   const box = make('div', { className: 'views' });
-  let shown = 0;
+  let at = 0;
   const show = () => {
-    const { picture, told } = views[shown];
-    box.replaceChildren(...[pictureOf(picture), make('p', { className: 'dim' }, picture.summary),
+    const { picture, told } = views[at];
+    box.replaceChildren(...[pictureOf(picture, name), make('p', { className: 'dim' }, picture.summary),
       told && make('p', { className: 'dim' }, told), views.length > 1 && change].filter(Boolean));
-    change.textContent = shown ? 'show one net' : `show the ${views.at(-1).picture.summary.split(',')[0]}`;
+    change.textContent = at ? 'show one net' : `show the ${views.at(-1).picture.summary.split(',')[0]}`;
   };
   const change = make('button', { type: 'button', onclick: () => {
     pictures.delete(box.querySelector('canvas'));
-    shown = 1 - shown;
+    at = 1 - at;
     show();
-    change.focus();
+    change.focus({ preventScroll: true });
   } });
   show();
   return box;
 }
 
-// Puts what is known of a net into its card. `choice` is the box that takes it side by side.
-function fillCard(article, card, choice, askCrystal) {
-  const heading = make('h3', {}, card.name || 'net');
+// Puts what is known of a net into its card, with the tools of its file.
+function fillCard(article, card, tools) {
+  const { entry } = card;
   const without = card.key ? 'no name in the archives' : '';
   const key = card.key && make('details', {}, make('summary', {}, 'key'), make('code', {}, card.key));
-  article.replaceChildren(...[heading, namesOf(card.names || [], without), picturesOf(card),
-    card.reason && reasonOf(card.reason), beyondOf(card.beyond), partsOf(card.parts), sizesOf(card), notesOf(card.notes || []), key, choice,
-    savesOf(card, askCrystal)].filter(Boolean));
+  const facts = make('div', { className: 'facts' }, card.reason && reasonOf(card.reason), beyondOf(card.beyond), partsOf(card.parts),
+    sizesOf(card), ...notesOf(entry), key, savesOf(card, article), tools);
+  const drawn = [picturesOf(card, card.title), structureOf(entry)].filter(Boolean);
+  article.replaceChildren(...[make('h3', {}, card.title || 'net'), namesOf(card.names || [], without),
+    make('div', { className: 'beside' }, ...drawn, facts)].filter(Boolean));
   article.removeAttribute('aria-busy');
 }

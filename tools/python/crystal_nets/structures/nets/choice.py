@@ -52,18 +52,18 @@ class Options:
 
 def nets_of(crystal: Crystal, options: Options, notes: list[Note]) -> list[Net]:
     """The layers and the nets in space of a crystal; notes on all of it come to the notes."""
-    bad_guests = _bad_guests(crystal)
-    if bad_guests:
+    too_near = bad_guests(crystal)
+    if too_near:
         told = f"{crystal.misfit}: such atoms are left out, as they are in pores and bonded to no others"
         notes.append(Note(DOUBT, told))
-        crystal = crystal.without(bad_guests)
+        crystal = crystal.without(too_near)
     elif crystal.misfit and not options.accept_misfit:
         raise Refused(f"{crystal.misfit} (--accept-misfit takes it all the same)")
     elif crystal.misfit:
         notes.append(Note(DOUBT, crystal.misfit))
     doubts: list[str] = []
     bonds = bonds_asked(crystal, options, doubts)
-    chosen = _with_atoms_chosen(crystal, bonds, options, notes)
+    chosen = atoms_chosen(crystal, bonds, options, notes)
     pieces = pieces_of(chosen)
     if doubts:
         notes.append(Note(DOUBT, "bonds in doubt: " + shorten("; ".join(doubts), MOST_TOLD)))
@@ -76,7 +76,7 @@ def nets_of(crystal: Crystal, options: Options, notes: list[Note]) -> list[Net]:
     if not periodic:
         raise Refused("no net: " + (_told_count(pieces) or "all atoms are left out"))
     notes += _told_pieces(pieces, {atom.name: atom.site.element for atom in crystal.atoms})
-    groups = [[p] for p in periodic] if options.every_copy else _alike(periodic, crystal)
+    groups = [[p] for p in periodic] if options.every_copy else alike(periodic, crystal)
     components = _components(pieces, crystal)
     return [named.of_provenance(named.provenance.of_components(components))
             for k, group in enumerate(groups) for named in _named(crystal, group, k, options)]
@@ -104,7 +104,7 @@ def _components(pieces: list[Piece], crystal: Crystal) -> list[Component]:
             for (dimension, formula), count in sorted(found.items(), key=lambda pair: (-pair[0][0], pair[0][1]))]
 
 
-def _bad_guests(crystal: Crystal) -> set[int]:
+def bad_guests(crystal: Crystal) -> set[int]:
     """The atoms in pores that are too near each other, with all that they touch, where no other atom of the crystal is
     too near; none where they touch all atoms, or metals."""
     reached = sorted({v for pair in crystal.near for v in pair})
@@ -133,7 +133,7 @@ def _nets_of_molecules(crystal: Crystal, bonded: QuotientGraph, options: Options
     if not periodic:
         raise Refused("no net: " + (_told_count(pieces_of(bonded)) or "all atoms are left out"))
     nets = []
-    for k, group in enumerate([[p] for p in periodic] if options.every_copy else _alike(periodic, crystal)):
+    for k, group in enumerate([[p] for p in periodic] if options.every_copy else alike(periodic, crystal)):
         simple = contracted(group[0].net)
         told = _told_copies(group) + _told_simplification(simple)
         made = f"{len(group[0].net.vertices)} molecules, joined by hydrogen bonds; standard: each molecule is a vertex"
@@ -143,8 +143,7 @@ def _nets_of_molecules(crystal: Crystal, bonded: QuotientGraph, options: Options
     return nets
 
 
-def _with_atoms_chosen(crystal: Crystal, bonds: set[Edge], options: Options, notes: list[Note]
-                       ) -> QuotientGraph:
+def atoms_chosen(crystal: Crystal, bonds: set[Edge], options: Options, notes: list[Note]) -> QuotientGraph:
     """The net of all atoms but those to be left out, and the guests of a framework."""
     elements = [atom.site.element for atom in crystal.atoms]
     net = QuotientGraph.of((atom.name for atom in crystal.atoms), bonds)
@@ -172,7 +171,7 @@ def _told_pieces(pieces: list[Piece], element: dict[str, str]) -> list[Note]:
     return [Note(LEFT_OUT, "left out: " + _told_count(small))] if small else []
 
 
-def _alike(pieces: list[Piece], crystal: Crystal) -> list[list[Piece]]:
+def alike(pieces: list[Piece], crystal: Crystal) -> list[list[Piece]]:
     """The pieces that are one net, as far as coordination sequences tell: those of the same dimension, copies and
     elements, whose vertices have the same numbers of neighbours, and whose simplified nets have the same sequences, each
     as often. Labels tell nothing: two layers may have the same."""
@@ -196,7 +195,7 @@ def _name_of(crystal: Crystal, k: int) -> str:
     return crystal.name if k == 0 else f"{crystal.name} part {k + 1}"
 
 
-def _framework(crystal: Crystal, piece: Piece) -> Framework:
+def framework_of(crystal: Crystal, piece: Piece) -> Framework:
     """The atoms of a piece that are not on its ends, with their places."""
     by_name = {atom.name: atom for atom in crystal.atoms}
     atoms = [by_name[name] for name in map(str, piece.net.vertices)]
@@ -208,7 +207,7 @@ def _framework(crystal: Crystal, piece: Piece) -> Framework:
 def _named(crystal: Crystal, group: list[Piece], k: int, options: Options) -> list[Net]:
     """The first of a group of nets alike, by each convention that applies and gives another net,
     with what must be told of it."""
-    framework = _framework(crystal, group[0])
+    framework = framework_of(crystal, group[0])
     notes = _partial_notes(crystal, framework.net, options) + _told_copies(group)
     asked = _convention_asked(options.convention, framework, group[0], notes)
     is_auto = asked == AUTO
@@ -216,7 +215,7 @@ def _named(crystal: Crystal, group: list[Piece], k: int, options: Options) -> li
     unfit: dict[str, list[str]] = {}
     for convention in conventions_for(asked, framework):
         try:
-            read.append((convention, *_read_by(convention, framework, group[0].dimension)))
+            read.append((convention, *read_by(convention, framework, group[0].dimension)))
         except Refused as reason:
             if not is_auto:
                 raise Refused(f"{convention.name} does not apply: {reason}") from reason
@@ -269,7 +268,7 @@ def _different(read: list[tuple[Convention, UnitNet, Contracted]], notes: list[N
         yield convention, units, simple
 
 
-def _read_by(convention: Convention, framework: Framework, dimension: int) -> tuple[UnitNet, Contracted]:
+def read_by(convention: Convention, framework: Framework, dimension: int) -> tuple[UnitNet, Contracted]:
     """The simplified net by a convention; raises Refused where it does not apply, or where no net
     of this dimension is left. A net of all atoms stays one, whatever is simplified."""
     units = convention.apply(framework)

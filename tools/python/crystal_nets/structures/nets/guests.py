@@ -141,11 +141,15 @@ def _groups(sites: list[SiteBonds]) -> list[list[SiteBonds]]:
 
 
 def _is_guest(group: list[SiteBonds], sites: list[SiteBonds], strongest: float, is_organic: bool) -> bool:
-    others = [(site.anions, site.length) for site in sites if site not in group]
+    inside = set(map(id, group))
+    longest: dict[int, float] = {}  # of the other sites, by their numbers of anions
+    for site in sites:
+        if id(site) not in inside:
+            longest[site.anions] = max(site.length, longest.get(site.anions, 0.0))
 
     def is_as_others(site: SiteBonds) -> bool:
-        return any(anions == site.anions and (site.is_regular or site.length <= AS_LARGE * length)
-                   for anions, length in others) or (site.is_regular and site.anions == 4)
+        has_others = site.anions in longest and (site.is_regular or site.length <= AS_LARGE * longest[site.anions])
+        return has_others or (site.is_regular and site.anions == 4)
 
     def is_weak(site: SiteBonds) -> bool:
         if is_as_others(site):

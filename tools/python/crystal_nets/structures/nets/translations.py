@@ -13,13 +13,16 @@ from fractions import Fraction
 from math import lcm
 
 import numpy as np
-from scipy.sparse import coo_matrix
-from scipy.sparse.linalg import splu
+from scipy.sparse import coo_matrix, csr_matrix, diags
+from scipy.sparse.csgraph import connected_components
+from scipy.sparse.linalg import cg, splu
 from scipy.spatial import cKDTree
 
 from ...graph import QuotientGraph, edge
-from ...lattice import Vector, coordinates, staircase
+from ...lattice import Vector, staircase
 
+RESIDUE = 1e-13    # of the places, as a share of the sums
+MOST_ROUNDS = 2_000  # of conjugate gradients
 SAME_PLACE = 1e-6  # in edges of the cell, between vertices of the placement
 
 
@@ -47,31 +50,44 @@ def divided_by_translations(net: QuotientGraph) -> QuotientGraph:
 def _over(net: QuotientGraph, translations: list[Translation], basis: list[Vector], denominator: int) -> QuotientGraph:
     """The net with one vertex for each orbit of the translations, over the basis, which is in
     units of 1/denominator."""
-    first, moved = _orbits(net, translations)
+    first, moved = _orbits(net, translations, denominator)
     number = {v: k for k, v in enumerate(sorted(set(first)))}
-    edges = []
-    for u, v, shift in net.edges:
-        step = (denominator * s + int(denominator * (b - a)) for s, a, b in zip(shift, moved[u], moved[v]))
-        edges.append(edge(number[first[u]], number[first[v]], coordinates(tuple(step), basis)))
-    return QuotientGraph.of((net.vertices[v] for v in sorted(number)), edges, net.dimension, net.name)
+    ends = np.array([(u, v) for u, v, _ in net.edges]).reshape(-1, 2)
+    shifts = np.array([shift for _, _, shift in net.edges])
+    cells = _coordinates(denominator * shifts + moved[ends[:, 1]] - moved[ends[:, 0]], basis).tolist()
+    edges = {(number[first[u]], number[first[v]], tuple(cell)) for (u, v), cell in zip(ends.tolist(), cells)}
+    return QuotientGraph.of((net.vertices[v] for v in sorted(number)), (edge(*one) for one in edges), net.dimension, net.name)
 
 
-def _orbits(net: QuotientGraph, translations: list[Translation]) -> tuple[list[int], list[tuple[Fraction, ...]]]:
-    """Of each vertex the first of its orbit, and the translation that carries that to it."""
+def _coordinates(rows: np.ndarray, basis: list[Vector]) -> np.ndarray:
+    """Of whole vectors of a lattice, one in each row, the coordinates in its staircase basis."""
+    rest, found = rows.copy(), np.zeros_like(rows)
+    for k, row in enumerate(basis):
+        found[:, k] = rest[:, k] // row[k]
+        rest -= found[:, k:k + 1] * np.array(row)
+    if rest.any():
+        raise ValueError(f"{rows[rest.any(axis=1)][0]} is not in the lattice")
+    return found
+
+
+def _orbits(net: QuotientGraph, translations: list[Translation], denominator: int) -> tuple[list[int], np.ndarray]:
+    """Of each vertex the first of its orbit, and the translation that carries that to it, in units of 1/denominator."""
     count, dimension = len(net.vertices), len(translations[0].step)
+    steps = [np.array([int(part * denominator) for part in t.step]) - denominator * t.shift for t in translations]
+    images = [t.image.tolist() for t in translations]
     first = [-1] * count
-    moved = [(Fraction(0),) * dimension] * count
+    moved = np.zeros((count, dimension), dtype=int)
     for start in range(count):
         if first[start] >= 0:
             continue
         first[start] = start
         reached = [start]
         for v in reached:
-            for t in translations:
-                w = int(t.image[v])
+            for image, step in zip(images, steps):
+                w = image[v]
                 if first[w] < 0:
                     first[w] = start
-                    moved[w] = tuple(a + b - int(c) for a, b, c in zip(moved[v], t.step, t.shift[v]))
+                    moved[w] = moved[v] + step[v]
                     reached.append(w)
     return first, moved
 
@@ -157,14 +173,25 @@ def _placement(net: QuotientGraph) -> np.ndarray | None:
     rows = np.concatenate((tails[is_step], tails[is_step]))
     columns = np.concatenate((tails[is_step], heads[is_step]))
     values = np.concatenate((np.ones(is_step.sum()), -np.ones(is_step.sum())))
-    laplacian = coo_matrix((values, (rows, columns)), shape=(count, count)).tocsc()[1:, 1:]
+    laplacian = coo_matrix((values, (rows, columns)), shape=(count, count)).tocsr()
     sums = np.zeros((count, shifts.shape[1]))
     np.add.at(sums, tails[is_step], shifts[is_step])
-    try:
-        rest = splu(laplacian).solve(sums[1:])
-    except RuntimeError:  # it is singular: the net is not connected
+    if connected_components(laplacian, directed=False, return_labels=False) > 1:
         return None
-    return np.vstack((np.zeros(shifts.shape[1]), rest))
+    columns_of_places = [_solution(laplacian, column) for column in sums.T]
+    places = np.array(columns_of_places).T
+    return places - places[0]
+
+
+def _solution(laplacian: csr_matrix, sums: np.ndarray) -> np.ndarray:
+    """The solution of a system of a connected graph, up to a constant: by conjugate gradients, which take time in proportion
+    to the cell of a net in space (M. R. Hestenes and E. Stiefel, J. Res. Natl. Bur. Stand. 49 (1952) 409); where they do not
+    come to an end, as along a narrow net, by elimination."""
+    inverse = diags(1 / laplacian.diagonal())
+    found, status = cg(laplacian, sums, tol=RESIDUE, atol=0.0, maxiter=MOST_ROUNDS, M=inverse)
+    if status == 0:
+        return found
+    return np.concatenate(([0.0], splu(laplacian[1:, 1:].tocsc()).solve(sums[1:])))
 
 
 def _arcs(net: QuotientGraph) -> tuple[np.ndarray, np.ndarray, np.ndarray]:

@@ -1,0 +1,46 @@
+'use strict';
+// What is asked of the server: some questions at a time, in their order.
+
+const MOST_AT_ONCE = 4;  // requests; the others wait
+const waiting = [];
+let running = 0;
+
+// Runs work when there is room for it.
+function inLine(work) {
+  return new Promise((resolve, reject) => {
+    waiting.push(() => work().then(resolve, reject).finally(() => {
+      running -= 1;
+      next();
+    }));
+    next();
+  });
+}
+
+function next() {
+  while (running < MOST_AT_ONCE && waiting.length) {
+    running += 1;
+    waiting.shift()();
+  }
+}
+
+// What the server answers to a question; {reason} where it does not.
+function ask(path, fields, signal) {
+  return inLine(() => {
+    const form = new FormData();
+    for (const [name, value] of Object.entries(fields)) form.append(name, value);
+    return answerOf(path, { method: 'POST', body: form, signal });
+  });
+}
+
+async function answerOf(path, request) {
+  if (request.signal?.aborted) return { reason: 'it was taken away' };
+  try {
+    return await (await fetch(path, request)).json();
+  } catch {
+    return { reason: request.signal?.aborted ? 'it was taken away'
+      : 'net_desk does not answer. Look whether it runs yet in its terminal, and start it again.' };
+  }
+}
+
+// The file itself: all that a structure file is asked with.
+const asFile = source => ({ file: source.file, convention: source.convention, choices: source.choices });
