@@ -29,8 +29,8 @@ from .piece import make_rows, path_of, rows_of
 from .plan import Failed, Plan, SourceAway, check_source, files_of, plan_of, read_plan, state_of
 
 DESCRIPTION = """The table of all nets of a source: a folder of structure files (.cif and others) and files of nets (.cgd,
-.arc), each packed by gzip or not, or one such file, with any number of nets. FOLDER gets table.tsv, a line for each net; groups.tsv, the nets
-that are the same; names.tsv, those that archives have; and refused.tsv, those without a key, and why. A run that
+.arc), each packed by gzip or not, or one such file, with any number of nets. FOLDER gets table.tsv, a line for each net;
+groups.tsv, the nets that are the same; names.tsv, those that archives have; and refused.tsv, those without a key, and why. A run that
 broke off is taken up by the same command: what was done is kept in FOLDER/work."""
 EPILOG = """exit status: 0 each net has a key; 1 some net has none; 2 usage; 3 nothing can be done, or a process was
 ended from outside; 75 a file of the source cannot be read now, and the same command tries again; else that of net_tool. NET_TOOL is the program, net_tool where it is not set.
@@ -64,8 +64,10 @@ def words() -> argparse.Namespace:
     parser.add_argument("--part", metavar="K/N", type=part, help="do each Nth piece from the Kth on, and no table")
     structures = parser.add_argument_group("of structure files, as cif2cgd has them")
     structures.add_argument("--convention", metavar="NAME", help="what is a vertex")
-    structures.add_argument("--mode", choices=list(filter(None, CHOICES["mode"])), help="kinds of structures with a rule of their own")
-    structures.add_argument("--bonds", choices=CHOICES["bonds"], help="by rules, by the file, or by both, to see where they differ")
+    structures.add_argument("--mode", choices=list(filter(None, CHOICES["mode"])),
+                            help="kinds of structures with a rule of their own")
+    structures.add_argument("--bonds", choices=CHOICES["bonds"],
+                            help="by rules, by the file, or by both, to see where they differ")
     structures.add_argument("--bond", action="append", default=[], type=pair_and_length, metavar="A-B=LENGTH",
                             help="of these two elements, bonds up to the length and no others (0: none)")
     structures.add_argument("--leave-out", metavar="ELEMENTS", help="atoms of no concern, as Na,Cl")
