@@ -144,6 +144,20 @@ class Table(FolderTest):
         self.assertEqual(found, {"POSCAR": ("unreadable", ""), "b.cgd.gz": ("accepted", "2"), "c.arc.gz": ("unreadable", "")})
         self.assertIn(b"packed by gzip, and damaged", contents(self.result)["refused.tsv"])
 
+    def test_how_structures_are_read(self):
+        """Quartz, whose oxygens are no edges where its bonds are too short, and no vertices of a zeolite's net."""
+        need_modules("gemmi", "numpy", "scipy")
+        self.source = self.folder / "quartz.cif"
+        self.source.write_bytes((TOP / "examples/quartz.cif").read_bytes())
+        for words, outcome in (([], "accepted"), (["--mode", "zeolite", "--bonds", "both"], "accepted"),
+                               (["--bond", "Si-O=1.0"], "unreadable")):
+            result = self.folder / f"result {len(words)}"
+            run(NET_TABLE, self.source, result, *words, "--no-names", "--jobs", 1, status=int(outcome != "accepted"))
+            self.assertEqual([row["outcome"] for row in table_of(result)], [outcome], words)
+        run(NET_TABLE, result, "--bond", "Si-O=1.5", "--jobs", 1, status=3)
+        for words in (["--bond", "Si=1"], ["--bond", "Si-O=x"], ["--mode", "x"], ["--bonds", "x"]):
+            run(NET_TABLE, self.source, self.folder / "other", *words, status=2)
+
     def test_a_table_of_blocks(self):
         told = self.make("--jobs", 1).stdout.decode()
         self.assertIn("5 nets, 2 with a key, 1 different, 2 with a name, 3 refused", told)

@@ -121,8 +121,7 @@ class Collections(FolderTest):
         self.assertIn("nets.wide.cgd: 1 nets without a key\n", told)
         self.assertIn('"bridged": PERIODIC_GRAPH: refused 5 Collision', (self.folder / "nets.refused").read_text())
         self.assertEqual((self.folder / "nets.wide.index").read_text().split("\t")[-1], "bridged\n")
-        named = run(NAME, self.write("x.cgd", BRIDGED.replace("bridged", "x").replace("1 3", "3 1")), self.folder,
-                    status=1).stdout
+        named = run(NAME, self.write("x.cgd", BRIDGED.replace("bridged", "x").replace("1 3", "3 1")), self.folder).stdout
         self.assertEqual(named, b"1\tx\tbridged\tverified map\n")
         run(MAKE, self.folder / "nets", self.write("a.cgd", crystals()))
         self.assertEqual(list(self.folder.glob("nets.wide*")), [])

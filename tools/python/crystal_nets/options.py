@@ -30,7 +30,7 @@ class StructureOptions(TypedDict, total=False):
     leave_out        elements of no concern: {"Na"}, ("Na", "Cl") or "Na,Cl"
     lengths          of two elements the longest bond in angstrom, and there are no others: {("Ba", "O"): 3.4}; a pair
                      may also be written frozenset(("Ba", "O")) or "Ba-O"
-    keep_ions        keep Na, K, Rb, Cs, Ca, Sr and Ba beside a framework
+    keep_ions        keep the cations that a framework holds as guests
     hydrogen_bonds   hydrogen bonds are edges
     partial_as_full  take partly occupied atoms as full
     accept_misfit    take atoms that do not fit the formula, or are too near

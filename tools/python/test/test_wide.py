@@ -212,6 +212,16 @@ class Names(FolderTest):
         answer = identify(disguised(BRIDGED, random.Random(7), name="x"), archive=self.folder)
         self.assertEqual((answer.outcome.name, answer.names, answer.by), ("Collision", ("bridged",), By.VERIFIED_MAP))
 
+    def test_nets_past_the_key_work_are_named(self):
+        """A vertex with 110 loops, of which no two nets have one index."""
+        chance = random.Random(8)
+        near = [vector for vector in product(range(-3, 4), repeat=3) if vector > (0, 0, 1)]
+        stars = [Net([(1, 1, vector) for vector in [(0, 0, 1), *chance.sample(near, 109)]], name=name) for name in ("one", "other")]
+        self.assertEqual(write_wide_archive(self.folder / "mine", stars), [])
+        for star in stars:
+            answer = identify(disguised(star, chance, 2, "x"), archive=self.folder)
+            self.assertEqual((answer.outcome.name, answer.names, answer.by), ("TooMuch", (star.name,), By.VERIFIED_MAP))
+
     def test_a_block_without_a_name_gives_none(self):
         write_wide_archive(self.folder / "mine", [Net(BRIDGED.edges)])
         answer = identify(BRIDGED, archive=self.folder)

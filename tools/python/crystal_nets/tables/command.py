@@ -7,6 +7,7 @@ import contextlib
 import fcntl
 import gc
 import os
+import re
 import signal
 import sys
 from collections.abc import Callable, Generator, Iterator
@@ -20,15 +21,16 @@ from ..archive import Archive, default_files, files_of as archive_files
 from ..progress import Progress
 from ..errors import CrystalNetsError, ProgramFailed, in_words
 from ..files import write_whole
+from ..options import CHOICES
 from ..side_by_side import end_with_parent, processors
 from .join import FILES, join
 from .parquet import need_pyarrow, write_parquet
 from .piece import make_rows, path_of, rows_of
 from .plan import Failed, Plan, SourceAway, check_source, files_of, plan_of, read_plan, state_of
 
-DESCRIPTION = """The table of all nets of a source: a folder of structure files (.cif) and files of nets (.cgd,
-.arc), or one such file, with any number of nets. FOLDER gets table.tsv, a line for each net; groups.tsv, the nets
-that are the same; names.tsv, those that archives have; and refused.tsv, those without a key, and why. A run that
+DESCRIPTION = """The table of all nets of a source: a folder of structure files (.cif and others) and files of nets (.cgd,
+.arc), each packed by gzip or not, or one such file, with any number of nets. FOLDER gets table.tsv, a line for each net;
+groups.tsv, the nets that are the same; names.tsv, those that archives have; and refused.tsv, those without a key, and why. A run that
 broke off is taken up by the same command: what was done is kept in FOLDER/work."""
 EPILOG = """exit status: 0 each net has a key; 1 some net has none; 2 usage; 3 nothing can be done, or a process was
 ended from outside; 75 a file of the source cannot be read now, and the same command tries again; else that of net_tool. NET_TOOL is the program, net_tool where it is not set.
@@ -62,6 +64,12 @@ def words() -> argparse.Namespace:
     parser.add_argument("--part", metavar="K/N", type=part, help="do each Nth piece from the Kth on, and no table")
     structures = parser.add_argument_group("of structure files, as cif2cgd has them")
     structures.add_argument("--convention", metavar="NAME", help="what is a vertex")
+    structures.add_argument("--mode", choices=list(filter(None, CHOICES["mode"])),
+                            help="kinds of structures with a rule of their own")
+    structures.add_argument("--bonds", choices=CHOICES["bonds"],
+                            help="by rules, by the file, or by both, to see where they differ")
+    structures.add_argument("--bond", action="append", default=[], type=pair_and_length, metavar="A-B=LENGTH",
+                            help="of these two elements, bonds up to the length and no others (0: none)")
     structures.add_argument("--leave-out", metavar="ELEMENTS", help="atoms of no concern, as Na,Cl")
     for name, text in SWITCHES.items():
         structures.add_argument("--" + name.replace("_", "-"), action="store_true", help=text)
@@ -83,6 +91,13 @@ def number_of_seconds(text: str) -> int:
     return int(text)
 
 
+def pair_and_length(text: str) -> tuple[str, float]:
+    pair, _, length = text.partition("=")
+    if not re.fullmatch(r"[A-Z][a-z]?-[A-Z][a-z]?", pair) or not re.fullmatch(r"\d+\.?\d*", length, re.ASCII):
+        raise argparse.ArgumentTypeError(f"{text!r} is not as Ba-O=3.4")
+    return pair, float(length)
+
+
 def part(text: str) -> tuple[int, int]:
     first, _, step = text.partition("/")
     if not (first.isdecimal() and step.isdecimal() and 1 <= int(first) <= int(step)):
@@ -93,8 +108,9 @@ def part(text: str) -> tuple[int, int]:
 def settings_of(asked: argparse.Namespace, source: Path) -> dict[str, Any]:
     """What the rows depend on beside the state of the source."""
     options: dict[str, Any] = {name: True for name in SWITCHES if getattr(asked, name)}
-    if asked.convention:
-        options["convention"] = asked.convention
+    options |= {name: getattr(asked, name) for name in ("convention", "mode", "bonds") if getattr(asked, name)}
+    if asked.bond:
+        options["lengths"] = dict(sorted(asked.bond))
     if asked.leave_out:
         options["leave_out"] = sorted(asked.leave_out.replace(",", " ").split())
     return {"source": str(source), "at": os.getcwd(), "options": options, "seconds": asked.seconds,

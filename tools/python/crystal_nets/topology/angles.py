@@ -1,9 +1,9 @@
 """Shortest cycles and shortest rings at the angles of a vertex.
 
-An angle is a vertex with two of its neighbours. A ring is a cycle without a short cut: no path between two of its vertices is
-shorter than the way along the cycle. So it is no sum of two smaller cycles (K. Goetzke and H.-J. Klein, J. Non-Cryst. Solids 127
-(1991) 215; M. O'Keeffe and S. T. Hyde, Zeolites 19 (1997) 370). It is enough that vertices opposite to each other in the cycle are
-as far from each other in the net."""
+An angle is a vertex with two of its neighbours. A ring is a cycle without a short cut: no path between two of its vertices
+is shorter than the way along the cycle. So it is no sum of two smaller cycles (K. Goetzke and H.-J. Klein, J. Non-Cryst.
+Solids 127 (1991) 215; M. O'Keeffe and S. T. Hyde, Zeolites 19 (1997) 370). It is enough that vertices opposite to each other
+in the cycle are as far from each other in the net."""
 
 from __future__ import annotations
 
