@@ -360,6 +360,34 @@ class Browser(unittest.TestCase):
             image.src = URL.createObjectURL(new Blob([text], { type: 'image/svg+xml' }));""", texts[0], canvas)
         self.assertLess(same, 0.02)  # of the points
 
+    def test_a_large_net_turns_as_a_sketch(self):
+        """Of LTN a sketch of few strokes is painted while it turns; all of it is painted once it rests."""
+        text = (EXAMPLES.parent / "archives/zeolites.cgd").read_text()
+        block = re.search(r'PERIODIC_GRAPH\nNAME "LTN"\n.*?END\n', text, re.DOTALL)[0]
+        self.driver.execute_script(DROP, [["LTN.cgd", block]])
+        self.ready(1)
+        canvas, = self.all(".views canvas")
+        self.driver.execute_script("arguments[0].scrollIntoView({ block: 'center' })", canvas)
+        self.until(lambda: len(set(self.pixels(canvas).split(","))) > 10)
+        whole, sketch = self.driver.execute_script("""const seen = pictures.get(arguments[0]), { stroke } = CanvasRenderingContext2D.prototype;
+            let count = 0;
+            CanvasRenderingContext2D.prototype.stroke = function (...given) { count += 1; return stroke.apply(this, given); };
+            const strokesOf = work => { count = 0; seen[work](); return count; };
+            return [strokesOf('paint'), strokesOf('paintMoving')];""", canvas)
+        self.assertGreater(whole, 2000)
+        self.assertLess(sketch, 150)
+        self.driver.execute_script("pictures.get(arguments[0]).paint()", canvas)
+        before = self.pixels(canvas)
+        self.driver.execute_script("pictures.get(arguments[0]).paintMoving()", canvas)
+        self.until(lambda: self.pixels(canvas) == before, "it is not painted again")
+
+    def test_the_place_where_files_are_dropped_is_seen(self):
+        style = lambda name: self.driver.find_element(By.ID, "zone").value_of_css_property(name)  # noqa: E731
+        self.assertEqual((style("border-top-style"), style("border-top-width")), ("dashed", "2px"))
+        self.assertTrue(self.all("#zone svg") and self.driver.find_element(By.ID, "choose").is_displayed())
+        self.driver.execute_script("document.getElementById('zone').dispatchEvent(new DragEvent('dragover', { bubbles: true }))")
+        self.assertEqual(style("border-top-style"), "solid")
+
     def test_each_control_has_a_name(self):
         self.drop("quartz.cif", "dia.cgd")
         self.driver.find_element(By.ID, "with-pictures").click()
