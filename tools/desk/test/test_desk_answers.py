@@ -30,6 +30,21 @@ from crystal_nets.provenance import DOUBT, LEFT_OUT, Note, Provenance  # noqa: E
 from crystal_nets.texts.net_text import nets_of_report  # noqa: E402
 
 EXAMPLES = TOP / "examples"
+PHOSPHORUS = b"""data_black
+_cell_length_a 3.3136
+_cell_length_b 10.478
+_cell_length_c 4.3763
+_cell_angle_alpha 90
+_cell_angle_beta 90
+_cell_angle_gamma 90
+_symmetry_space_group_name_H-M 'C m c a'
+loop_
+_atom_site_label
+_atom_site_fract_x
+_atom_site_fract_y
+_atom_site_fract_z
+P 0 .10168 .08056
+"""
 CUPRITE = b"""data_cuprite
 _cell_length_a 4.27
 _cell_length_b 4.27
@@ -174,8 +189,19 @@ class Atoms(unittest.TestCase):
         primitive = np.array([[0, 1, 1], [1, 0, 1], [1, 1, 0]], float)
         cell = upright_cell(primitive)
         self.assertTrue(np.allclose(cell @ cell.T, 4 * np.eye(3)), cell)
+        noisy = upright_cell(20.7 * (primitive + 1e-5 * np.arange(9).reshape(3, 3)))
+        self.assertAlmostEqual(abs(np.linalg.det(noisy)) / 41.4 ** 3, 1, places=3)
         skew = np.array([[1, 0, 0], [-0.5, 0.75 ** 0.5, 0], [0, 0, 2]])
         self.assertAlmostEqual(abs(np.linalg.det(upright_cell(skew))), abs(np.linalg.det(skew)))
+
+    def test_layers_of_a_centred_cell(self):
+        """Black phosphorus, A. Brown and S. Rundqvist, Acta Cryst. 19 (1965) 684: its layers are puckered, and half a cell apart."""
+        (net, told), = self.told("P.cif", PHOSPHORUS)
+        picture = told["picture"]
+        places = np.array(picture["vertices"])
+        lengths = [np.linalg.norm(places[i] - places[j]) for i, j in picture["edges"]]
+        self.assertEqual((net.dimension, len(picture["outline"])), (2, 0))
+        self.assertTrue(len(lengths) > 50 and 2.2 < min(lengths) and max(lengths) < 2.3, lengths)
 
     def test_what_is_not_drawn(self):
         net, = read(EXAMPLES / "quartz.cif")

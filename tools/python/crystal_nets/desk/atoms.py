@@ -24,7 +24,7 @@ from ..structures.nets.laid_out import LaidOut, laid_out
 from ..structures.reading.formats import structures_of
 from .colours import colour_of
 
-FEW_ATOMS, MOST_ATOMS = 120, 2_500  # of those that are shown: cells are added up to the first
+FEW_ATOMS, MANY_ATOMS, MOST_ATOMS = 120, 1_000, 4_000  # cells are added up to the first; past the second they stay primitive
 EDGE = 0.02          # beyond the borders of the cells that are shown, in fractions
 STUB = 0.3           # how much is shown of an edge that leaves
 BALL = 0.3           # radius of an atom, in covalent radii
@@ -33,7 +33,9 @@ LEAST_BALL = 0.3     # in angstrom
 DIGITS = 3
 MOST_TIMES = 4       # of the primitive cell
 PER_DOUBLING, PER_LENGTH = 0.45, 0.65  # what a doubling, and one more length of edges, has to save in cosines
-TINY = -1e-6         # of equals the cell along the axes
+ONE_LENGTH = 1.01    # times: lengths that differ by less are one
+TINY = 1e-4          # of equals the cell with the shorter edges
+FARTHEST = 2         # steps along an edge of the given cell, to find the upright one
 TILT = np.radians([(17, 11), (0, 25)])  # of the frame, about the upright and upwards: in space, and of layers
 MOST_CELLS = 6       # along an axis
 Spot = tuple[int, Vector]  # a vertex or an atom, in a cell of its piece
@@ -62,20 +64,16 @@ class Region:
         found: np.ndarray = places @ np.linalg.inv(self.cell)
         return found
 
-    def inside(self, places: np.ndarray) -> list[int]:
-        """The numbers of those places that are in the region, up to its borders."""
+    def inside(self, places: np.ndarray, bound: np.ndarray) -> list[int]:
+        """The numbers of those places that are in the region, up to its borders, along those axes that bound it."""
         fractions = self.fractions(places)
-        shown = (fractions > -EDGE) & (fractions < self.counts + EDGE)
+        shown = ((fractions > -EDGE) & (fractions < self.counts + EDGE)) | ~bound
         return [int(k) for k in np.flatnonzero(shown.all(axis=1))]
 
-    def start_of(self, piece: LaidOut, offset: np.ndarray) -> np.ndarray:
-        """Where the region begins for a piece: a layer is shown in the cell that it is in."""
-        if len(piece.lattice) == 3:
-            return np.zeros(3)
-        across = np.abs(self.fractions(piece.lattice)).max(axis=0) < 0.5
-        cell = np.floor(self.fractions(piece.places.mean(axis=0) + offset) + EDGE)
-        start: np.ndarray = (cell * across) @ self.cell
-        return start
+    def bound_of(self, piece: LaidOut) -> np.ndarray:
+        """Which of its axes bound what is shown of a piece: a layer may stand at any height."""
+        bound: np.ndarray = np.abs(self.fractions(piece.lattice)).max(axis=0) > EDGE
+        return bound
 
     def shifts(self, piece: LaidOut) -> list[tuple[int, ...]]:
         """The cells of a piece that may be seen."""
@@ -102,15 +100,15 @@ class Window:
 
     def add(self, piece: LaidOut, offset: np.ndarray, region: Region, kinds: list[int]) -> None:
         """Adds what is shown of one copy of a piece."""
-        middles, start = _middles(piece), region.start_of(piece, offset)
+        middles, bound = _middles(piece), region.bound_of(piece)
         vertices: dict[Spot, int] = {}
         atoms: dict[Spot, int] = {}
         for shift in region.shifts(piece):
             way = np.array(shift) @ piece.lattice + offset
-            for v in region.inside(piece.vertices + way - start):
+            for v in region.inside(piece.vertices + way, bound):
                 vertices[v, shift] = len(self.vertices)
                 self._add_vertex(v, piece.vertices[v] + way, kinds[v])
-            units = set(region.inside(middles + way - start))
+            units = set(region.inside(middles + way, bound))
             for k in (k for k, unit in enumerate(piece.unit) if unit in units):
                 atoms[k, shift] = len(self.atoms)
                 self._add_atom(piece.elements[k], piece.places[k] + way, piece.vertex[piece.unit[k]])
@@ -155,7 +153,11 @@ def _net_with(nets: list[Net], block: bytes, part: str) -> Net | None:
 
 
 def _told(net: Net, cell: np.ndarray, pieces: list[LaidOut]) -> dict[str, Any]:
-    region = _region(upright_cell(cell) if net.dimension == 3 else cell, pieces)
+    if net.dimension == 2:
+        region = _region(cell_of_layer(pieces[0].lattice, cell), pieces)
+    else:
+        upright = upright_cell(cell)
+        region = _region(upright if _atoms_in(upright, pieces) <= MANY_ATOMS else cell, pieces)
     copies = [(piece, offset) for piece in pieces for offset in piece.copies]
     kinds, window = _kinds(net), Window()
     for number, (piece, offset) in enumerate(copies):
@@ -175,10 +177,8 @@ def _kinds(net: Net) -> list[int]:
 
 def _region(cell: np.ndarray, pieces: list[LaidOut]) -> Region:
     """Cells up to FEW_ATOMS: the shortest way grows first. Of layers one cell across."""
-    lengths, volume = np.linalg.norm(cell, axis=1), abs(float(np.linalg.det(cell)))
-    atoms = sum(len(piece.places) * len(piece.copies) * volume / _volume(piece, volume) for piece in pieces)
-    steps = np.abs(pieces[0].lattice @ np.linalg.inv(cell)).max(axis=0)
-    along = (steps > 0.5) | any(len(piece.lattice) == 3 for piece in pieces)
+    lengths, atoms = np.linalg.norm(cell, axis=1), _atoms_in(cell, pieces)
+    along = np.array([True, True, any(len(piece.lattice) == 3 for piece in pieces)])
     counts = np.ones(3, int)
     while True:
         grown = counts.copy()
@@ -188,9 +188,30 @@ def _region(cell: np.ndarray, pieces: list[LaidOut]) -> Region:
         counts = grown
 
 
-def _volume(piece: LaidOut, volume: float) -> float:
-    """Of the cell in which a piece has its atoms: for a layer that of the crystal."""
-    return abs(float(np.linalg.det(piece.lattice))) if len(piece.lattice) == 3 else volume
+def _atoms_in(cell: np.ndarray, pieces: list[LaidOut]) -> float:
+    """How many atoms a cell has; of layers its first two edges count."""
+    return sum(len(piece.places) * len(piece.copies) * _size(cell[:len(piece.lattice)]) / _size(piece.lattice)
+               for piece in pieces)
+
+
+def _size(rows: np.ndarray) -> float:
+    """The volume of a cell, or the area of that of a layer."""
+    return float(np.sqrt(abs(np.linalg.det(rows @ rows.T))))
+
+
+def cell_of_layer(lattice: np.ndarray, cell: np.ndarray) -> np.ndarray:
+    """The shortest steps of a layer (C. F. Gauss), and of the edges of the crystal's cell the one that leads farthest across.
+    Rows are the edges."""
+    one, other = lattice
+    while True:
+        if one @ one > other @ other:
+            one, other = other, one
+        times = round(float(one @ other / (one @ one)))
+        if not times:
+            break
+        other = other - times * one
+    heights = np.abs(cell @ np.cross(one, other))
+    return np.vstack((one, other, cell[int(np.argmax(heights))]))
 
 
 def _joined(edges: Iterable[Edge], shown: dict[Spot, int]) -> list[tuple[int, int]]:
@@ -265,21 +286,25 @@ def _usual_length(window: Window) -> float:
 def upright_cell(cell: np.ndarray) -> np.ndarray:
     """Of the cells with the same translations and a small multiple of the volume one whose angles are near right ones, as
     the cubic one of a face-centred lattice. Rows are the edges."""
-    steps = [step for step in product((-1, 0, 1), repeat=3) if step > (0, 0, 0)]
-    ways = np.array(steps) @ cell
-    lengths = np.round(np.linalg.norm(ways, axis=1), DIGITS)
-    units = ways / np.linalg.norm(ways, axis=1)[:, None]
-    cosines = np.abs(units @ units.T)
-    best, least = cell, np.inf
-    for i, j, k in combinations(range(len(steps)), 3):
-        volume = abs(round(np.linalg.det(np.array([steps[i], steps[j], steps[k]]))))
-        if not 1 <= volume <= MOST_TIMES:
-            continue
-        score = (cosines[i, j] + cosines[i, k] + cosines[j, k] + PER_DOUBLING * np.log2(volume)
-                 + PER_LENGTH * len({float(lengths[n]) for n in (i, j, k)}) + TINY * ways[[i, j, k]].sum())
-        if score < least - 1e-9:
-            best, least = ways[[i, j, k]], score
+    steps = np.array([step for step in product(range(-FARTHEST, FARTHEST + 1), repeat=3) if step > (0, 0, 0)])
+    triples = np.array(list(combinations(range(len(steps)), 3)))
+    times = np.abs(np.rint(np.linalg.det(steps[triples]))).astype(int)
+    triples, times = triples[(times > 0) & (times <= MOST_TIMES)], times[(times > 0) & (times <= MOST_TIMES)]
+    ways = steps @ cell
+    lengths = np.linalg.norm(ways, axis=1)
+    cosines = np.abs((ways / lengths[:, None]) @ (ways / lengths[:, None]).T)
+    first, second, third = triples.T
+    scores = (cosines[first, second] + cosines[first, third] + cosines[second, third] + PER_DOUBLING * np.log2(times)
+              + PER_LENGTH * _different(lengths[triples]) + TINY * lengths[triples].sum(axis=1))
+    best: np.ndarray = ways[triples[int(np.argmin(scores))]]
     return best if np.linalg.det(best) > 0 else -best
+
+
+def _different(lengths: np.ndarray) -> np.ndarray:
+    """Of rows of three lengths how many are different, up to a hundredth."""
+    in_order = np.sort(lengths, axis=1)
+    found: np.ndarray = 1 + (in_order[:, 1:] > ONE_LENGTH * in_order[:, :-1]).sum(axis=1)
+    return found
 
 
 def _frame(cell: np.ndarray, dimension: int) -> np.ndarray:

@@ -6,13 +6,14 @@ import zipfile
 import zlib
 from base64 import b64encode
 from io import BytesIO
+from pathlib import PurePosixPath
 from typing import Any
 
 from ..errors import NotANet
 from .files import MOST_BYTES, shown_name
 
 MOST_FILES = 2000
-LEFT_OUT = ("__MACOSX/", ".")  # begin names of what a system puts beside the files
+BESIDE = "__MACOSX/"    # begins names of what a system puts beside the files; a hidden file is none that was given
 OFFICE = "[Content_Types].xml"  # of files of office programs, which are ZIP archives as well
 IS_ENCRYPTED = 1                # of the flags of a member
 
@@ -36,7 +37,8 @@ def unzip(content: bytes) -> dict[str, Any]:
 def _members(archive: zipfile.ZipFile) -> list[zipfile.ZipInfo]:
     """The files of the archive, by their order. NotANet where they are too many or too much, by what the archive tells of
     them; what has another size is found damaged when it is read."""
-    members = [member for member in archive.infolist() if not member.is_dir() and not member.filename.startswith(LEFT_OUT)]
+    members = [member for member in archive.infolist() if not member.is_dir() and not member.filename.startswith(BESIDE)
+               and not PurePosixPath(member.filename).name.startswith(".")]
     if any(member.filename == OFFICE for member in members):
         raise NotANet("it is a file of an office program")
     if len(members) > MOST_FILES:

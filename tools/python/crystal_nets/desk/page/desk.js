@@ -85,7 +85,7 @@ function listenToFiles() {
     element('pair-title').focus({ preventScroll: true });
   };
   element('choose').onchange = event => {
-    take([...event.target.files]);
+    take([...event.target.files]).catch(() => tell('What was chosen cannot be read.'));
     event.target.value = '';
   };
 }

@@ -14,6 +14,7 @@ from __future__ import annotations
 from collections import Counter, defaultdict
 from dataclasses import dataclass, field
 from itertools import combinations
+from math import hypot
 
 import numpy as np
 
@@ -182,7 +183,7 @@ def _sites(crystal: Crystal, net: QuotientGraph, kept: set[int]) -> list[SiteBon
         near = [(w, s) for w, s in arcs[v] if w in kept and makes_anions(elements[w])]
         bonds = [(crystal.atoms[w].place + np.array(s) @ crystal.cell - atom.place, elements[w]) for w, s in near]
         steps[site.label].append([step for step, _ in bonds])
-        valences[site.label] += [_mean_valence(atom.content, anion, float(np.linalg.norm(step)))
+        valences[site.label] += [_mean_valence(atom.content, anion, hypot(*step))
                                  for step, anion in bonds]
         of_framework = [_is_of_framework(w, v, arcs, elements) for w, _ in near]
         site.anions = max(site.anions, len(bonds))
@@ -191,7 +192,7 @@ def _sites(crystal: Crystal, net: QuotientGraph, kept: set[int]) -> list[SiteBon
         if site.anions:
             charge = max((CHARGES.get(element, 9) for element in site.elements), default=9)
             site.strength = min(float(np.mean(valences[label])), charge / site.anions)
-            site.length = float(np.mean([np.linalg.norm(step) for bonds in steps[label] for step in bonds]))
+            site.length = float(np.mean([hypot(*step) for bonds in steps[label] for step in bonds]))
     return [site for site in found.values() if site.anions]
 
 

@@ -49,6 +49,8 @@ def _closed_shifts(net: QuotientGraph, cells: list[Vector]) -> dict[Edge, Vector
 
 
 def _piece(net: QuotientGraph) -> Piece:
+    if not net.edges:  # a single atom, of which a crystal may have thousands
+        return Piece(QuotientGraph.of(net.vertices, (), 0, net.name), 0, 1, [], [(0,) * net.dimension])
     cells = net.walks()
     closed = _closed_shifts(net, cells)
     basis = staircase(set(closed.values()))
