@@ -9,6 +9,7 @@ from pathlib import Path
 
 from testing import TOOLS, TOP, FolderTest, need_modules, run
 
+from crystal_nets.answers import OF_TOPOLOGY
 from crystal_nets.blocks.converter import Converter
 from crystal_nets.reading import nets_of_cgd, read
 from crystal_nets.tables.plan import plan_of
@@ -222,3 +223,6 @@ class Pieces(FolderTest):
         self.assertEqual(table.column("name").to_pylist(), [name for name, _ in PLACES])
         self.assertEqual(table.column("line").to_pylist(), [line for _, line in PLACES])
         self.assertEqual(table.column("classes").to_pylist(), [None] * 4)
+        self.tool("net_table", "--parquet", "--topology", *words[:-1], self.folder / "listed")
+        table = pyarrow.parquet.read_table(self.folder / "listed/table.parquet")
+        self.assertEqual([str(table.schema.field(name).type) for name in OF_TOPOLOGY], ["string", "string", "double", "string"])

@@ -15,7 +15,7 @@ from odd_cells import block, in_odd_cell, text_of_odd_nets
 from testing import IS_LONG, PROGRAM, TOOLS, TOP, FolderTest, long_test, need_commands, need_modules, need_program, run
 
 from crystal_nets import Net, cover, read  # noqa: E402
-from crystal_nets.tables.columns import TABLE, escaped, plain, read_table  # noqa: E402
+from crystal_nets.tables.columns import TABLE, WITH_TOPOLOGY, escaped, plain, read_table  # noqa: E402
 from crystal_nets.tables.piece import path_of, rows_of  # noqa: E402
 from crystal_nets.tables.plan import FORM, Failed, files_of, plan_of, read_plan  # noqa: E402
 from crystal_nets.wide.archive import write_wide_archive  # noqa: E402
@@ -355,6 +355,71 @@ class Table(FolderTest):
         rows = table_of(self.result)
         self.assertEqual({Path(row["source"]).name for row in rows}, {path.name for path in folder.iterdir()})
         self.assertEqual(rows[-1]["names"], "one, square\\; lattice;two, square\\; lattice")
+
+
+class Topology(FolderTest):
+    """What databases list of nets, beside the other columns."""
+
+    KNOWN = {"dia": ("6^6", "6(2).6(2).6(2).6(2).6(2).6(2)", "981.00", "11"),
+             "rtl": ("{4.6^2}2{4^2.6^10.8^3}", "4.6(2).6(2);4.4.6.6.6.6.6.6.6.6.6(2).6(2).*.*.*", None, "22"),
+             "pcu": ("4^12.6^3", "4.4.4.4.4.4.4.4.4.4.4.4.*.*.*", "1561.00", "11"),
+             "bcu": ("4^24.6^4", "-", "2331.00", "11")}
+
+    def setUp(self):
+        super().setUp()
+        need_program()
+        need_commands("sort")
+        known = [net for net in read(TOP / "archives/common.cgd") if net.name.split(",")[0] in ("dia", "rtl", "pcu", "bcu")]
+        woven = Net([(1, 1, (2, 0)), (1, 1, (0, 1))], name="woven")
+        self.source = self.folder / "nets.cgd"
+        self.source.write_bytes(b"".join(net.block for net in (*known, woven, Net(BRIDGED, name="bridged"))) + BLOCKS[-20:])
+        self.nets = [net.name.split(",")[0] for net in known]
+
+    def make(self, folder: str, *words: object, most: int = 1000) -> Path:
+        code = (f"import sys; sys.path.insert(0, {str(TOOLS / 'python')!r})\n"
+                f"from crystal_nets.tables import plan; plan.MOST_BLOCKS = {most}\n"
+                "from crystal_nets.tables.command import main; sys.exit(main())")
+        run(sys.executable, "-B", "-c", code, self.source, self.folder / folder, "--no-names", *words, status=1)
+        return self.folder / folder
+
+    def test_columns(self):
+        rows = {row["name"].split(",")[0]: row for row in table_of(self.make("result", "--topology", "--jobs", 1))}
+        for name, wanted in self.KNOWN.items():
+            found = tuple(rows[name][column] for column in WITH_TOPOLOGY[-4:])
+            self.assertEqual(found, tuple(text or found[2] for text in wanted), name)
+        self.assertEqual([rows["woven"][column] for column in WITH_TOPOLOGY[-4:]], [""] * 4)
+        self.assertEqual((rows["bridged"]["key"], rows["bridged"]["transitivity"]), ("", ""))
+        self.assertIn("{4}", rows["bridged"]["point_symbol"])
+
+    def test_other_columns_are_as_without(self):
+        listed, plain_one = table_of(self.make("listed", "--topology")), table_of(self.make("plain"))
+        self.assertEqual((tuple(listed[0]), tuple(plain_one[0])), (WITH_TOPOLOGY, TABLE))
+        self.assertEqual([{name: row[name] for name in TABLE} for row in listed], plain_one)
+
+    def test_pieces_and_keys_alone_change_nothing(self):
+        whole = contents(self.make("whole", "--topology", "--keys-alone", "--jobs", 1))
+        parts = self.make("parts", "--topology", "--keys-alone", "--jobs", 2, most=1)
+        self.assertGreater(len(read_plan(parts / "work/plan").pieces), 3)
+        self.assertEqual(contents(parts), whole)
+        same = [[row[name] for name in WITH_TOPOLOGY[-4:]] for row in table_of(self.make("placed", "--topology", "--jobs", 1))]
+        self.assertEqual([[row[name] for name in WITH_TOPOLOGY[-4:]] for row in table_of(parts)], same)
+
+    def test_a_plan_fixes_it(self):
+        words = (self.source, self.folder / "result", "--no-names", "--jobs", 1)
+        run(NET_TABLE, *words, "--topology", "--plan")
+        self.assertIn(b"its topology is True", run(NET_TABLE, *words, status=3).stderr)
+        run(NET_TABLE, self.folder / "result", "--part", "1/1")
+        run(NET_TABLE, *words[1:], status=1)
+        self.assertEqual(tuple(table_of(self.folder / "result")[0]), WITH_TOPOLOGY)
+        self.make("plain")
+        self.assertIn(b"its topology is False", run(NET_TABLE, self.folder / "plain", "--topology", status=3).stderr)
+
+    def test_pandas_reads_it(self):
+        need_modules("pandas")
+        table = read_table(self.make("result", "--topology"))
+        self.assertEqual((list(table.columns), str(table["td10"].dtype)), (list(WITH_TOPOLOGY), "Float64"))
+        self.assertEqual(table["td10"].isna().sum(), 2)
+        self.assertEqual(list(table["td10"])[self.nets.index("dia")], 981)
 
 
 class Plans(FolderTest):

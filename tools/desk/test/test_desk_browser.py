@@ -126,6 +126,23 @@ class Browser(unittest.TestCase):
             self.assertIn(words, told)
         self.assertNotIn("undefined", told)
 
+    def test_what_databases_list_is_asked_for_when_it_is_opened(self):
+        self.drop("dia.cgd", "interwoven.cgd")
+        asked = "return performance.getEntriesByType('resource').filter(entry => entry.name.endsWith('topology')).length"
+        self.assertEqual(self.driver.execute_script(asked), 0)
+        dia, woven, *_ = self.all(".card details.listed")
+        for box, wanted, count in ((dia, ("6^6", ".".join(["6(2)"] * 6), "981.00", "transitivity"), 1), (woven, ("not connected",), 2)):
+            self.driver.execute_script("arguments[0].open = true", box)
+            self.until(lambda: all(words in box.text for words in wanted), str(wanted))
+            self.assertIn("computed beside the program, and not proved", box.text)
+            self.assertEqual(self.driver.execute_script(asked), count)
+        for is_open in (False, True):
+            self.driver.execute_async_script(
+                "const [box, is_open, done] = arguments; box.addEventListener('toggle', () => done(), { once: true }); box.open = is_open",
+                dia, is_open)
+        self.assertEqual(self.driver.execute_script(asked), 2)
+        self.assertNotIn("undefined", dia.text)
+
     def test_a_net_is_turned(self):
         self.drop("dia.cgd")
         canvas, = self.all("canvas")

@@ -199,7 +199,7 @@ class WhatIsSent(WithServer):
         for value in ("", "[]", "{}", "[1]", "[" * 5000, '[{"text": 1, "line": 1}]', '[{"text": "x", "line": 0}]',
                       '[{"text": "x", "line": true}]', '[{"text": "x"}]', '[{"name": "x", "block": "", "refusal": ""}]',
                       '[{"name": 1, "block": "", "refusal": "", "provenance": {}}]', json.dumps([{"text": "x", "line": 1}] * 1001)):
-            for path, name in (("rows", "nets"), ("card", "net")):
+            for path, name in (("rows", "nets"), ("card", "net"), ("topology", "net")):
                 body, kind = form_of({name: value})
                 self.reason(self.server.request("POST", path, body, Content_Type=kind), 400)
         for path in ("card", "rows", "pair", "crystal", "nets", "unzip", "atoms"):
@@ -212,7 +212,8 @@ class WhatIsSent(WithServer):
         forms = [(path, *form_of(fields)) for path, fields in (
             ("nets", {"file": ("a.cgd", SQL), "convention": "auto", "choices": "[]"}),
             ("nets", {"file": ("x.cif", QUARTZ), "convention": "all-atoms", "choices": '["keep_ions"]'}),
-            ("card", {"net": json.dumps([NET])}), ("rows", {"nets": json.dumps([NET, {"line": 7, "text": block}])}),
+            ("card", {"net": json.dumps([NET])}), ("topology", {"net": json.dumps([NET])}),
+            ("rows", {"nets": json.dumps([NET, {"line": 7, "text": block}])}),
             ("unzip", {"file": ("a.zip", ZIP)}),
             ("atoms", {"file": ("x.cif", QUARTZ), "convention": "all-atoms", "choices": "[]", "block": block}),
             ("pair", {"one": block, "other": block}), ("crystal", {"block": block, "name": "sql"}))]

@@ -17,6 +17,7 @@ zips         the files of a ZIP archive
 kinds        what a file is that has no net
 rows         what the table tells of nets
 cards        what is told and drawn of a net
+listed       what databases list of a net, when it is asked for
 beyond       names of a net without a key, by verified maps
 atoms        the structure beside its net
 colours      the colours of elements

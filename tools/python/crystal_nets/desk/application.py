@@ -21,7 +21,7 @@ from .worker import ClientGone, NoAnswer, Workers
 
 PAGE = Path(__file__).with_name("page")
 VIEWER = Path(__file__).resolve().parents[1] / "pictures/viewer.js"
-SCRIPTS = ("work.js", "cards.js", "structure.js", "table.js", "zip.js", "sources.js", "pairs.js", "desk.js")
+SCRIPTS = ("work.js", "cards.js", "listed.js", "structure.js", "table.js", "zip.js", "sources.js", "pairs.js", "desk.js")
 FILES = {"": (PAGE / "desk.html", "text/html"), "desk.css": (PAGE / "desk.css", "text/css"),
          **{name: (PAGE / name, "text/javascript") for name in SCRIPTS},
          "viewer.js": (VIEWER, "text/javascript"), "icon.svg": (PAGE / "icon.svg", "image/svg+xml")}
@@ -116,6 +116,9 @@ def add_questions(app: Flask, workers: Workers, connections: Connections) -> Non
     def card(token: str) -> Response:
         return ask(questions.card, nets_of_form("net", most=1)[0])
 
+    def topology(token: str) -> Response:
+        return ask(questions.topology, nets_of_form("net", most=1)[0])
+
     def atoms(token: str) -> Response:
         return ask(questions.atoms, *file_of_form(), options_of_form(), text("block").encode())
 
@@ -126,7 +129,8 @@ def add_questions(app: Flask, workers: Workers, connections: Connections) -> Non
         return ask(questions.crystal, text("block").encode(), text("name"))
 
     app.add_url_rule("/<token>/archives", "archives", archives)
-    for name, work in (("nets", nets), ("unzip", unzip), ("rows", rows), ("card", card), ("atoms", atoms), ("pair", pair), ("crystal", crystal)):
+    for name, work in (("nets", nets), ("unzip", unzip), ("rows", rows), ("card", card),
+                       ("topology", topology), ("atoms", atoms), ("pair", pair), ("crystal", crystal)):
         app.add_url_rule(f"/<token>/{name}", name, work, methods=["POST"])
 
 

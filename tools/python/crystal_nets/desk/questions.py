@@ -87,6 +87,12 @@ def card(fields: dict[str, Any]) -> dict[str, Any]:
     return cards.card(net_of_form(fields))
 
 
+def topology(fields: dict[str, Any]) -> dict[str, Any]:
+    """What databases list of one net."""
+    from .listed import listed
+    return listed(net_of_form(fields))
+
+
 def atoms(name: str, content: bytes, options: dict[str, Any], block: bytes) -> dict[str, Any]:
     """The atoms of a structure file with one of its nets, which has this block, laid over them."""
     from .atoms import atoms as atoms_of_net

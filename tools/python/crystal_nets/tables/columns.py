@@ -7,6 +7,7 @@ import re
 from pathlib import Path
 from typing import TYPE_CHECKING
 
+from ..answers import OF_TOPOLOGY
 from ..errors import NotATable, PackageMissing, lacking
 from ..files import checked_path
 from ..texts.row_text import ESCAPES
@@ -16,10 +17,12 @@ if TYPE_CHECKING:
 
 OF_A_PIECE = ("source", "line", "name", "outcome", "dimension", "vertices", "edges", "classes", "D0", "copies", "key",
               "sequences", "convention", "doubts", "left_out", "components", "notes", "reason", "by", "index", "small_key",
-              "certificate", "block")
+              "certificate", "block", *OF_TOPOLOGY)
 OF_READING = ("convention", "doubts", "left_out", "components", "notes")  # how a structure was read
 TABLE = ("number", *OF_A_PIECE[:OF_A_PIECE.index("convention")], "group", "names", "by", "index", *OF_READING)
+WITH_TOPOLOGY = (*TABLE, *OF_TOPOLOGY)  # where `--topology` was asked for
 NUMBERS = ("number", "line", "dimension", "vertices", "edges", "classes", "D0", "copies", "group")
+FRACTIONS = ("td10",)
 QUOTE_NONE = 3  # of the module csv
 MARKS = {**{bytes((byte,)).decode("latin-1"): text.decode() for byte, text in ESCAPES.items()}, '"': "\\x22"}
 ESCAPED = re.compile(r"\\(x[0-9a-f]{2}|.)")
@@ -41,34 +44,48 @@ def plain(field: str) -> str:
                        else LETTERS.get(found[1], found[1]), field)
 
 
+def columns_of(topology: bool) -> tuple[str, ...]:
+    """The columns of a table, with or without what databases list."""
+    return WITH_TOPOLOGY if topology else TABLE
+
+
 def line_of(fields: tuple[str, ...]) -> bytes:
     return "\t".join(fields).encode(errors="surrogateescape") + b"\n"
 
 
 def read_table(path: str | os.PathLike[str]) -> pandas.DataFrame:
     """The table that net_table made, of its folder or file, as a `pandas.DataFrame`. Numbers that are not there are NA,
-    texts are empty. The fields `sequences`, `names`, `doubts`, `left_out`, `components` and `notes` have `;` between their
-    parts, as README.md of tools/batch says. NotATable where it is none, or is cut."""
+    texts are empty. The fields `sequences`, `names`, `doubts`, `left_out`, `components`, `notes` and `vertex_symbols` have `;`
+    between their parts, as README.md of tools/batch says. NotATable where it is none, or is cut."""
     try:
         import pandas
     except ImportError as missing:
         raise PackageMissing(lacking(missing, "apt-get install python3-pandas")) from None
     place = checked_path(path, NotATable)
     file = place / "table.tsv" if place.is_dir() else place
-    _check_lines(file)
+    columns = _checked_columns(file)
     try:
-        return pandas.read_csv(file, sep="\t", dtype={name: "Int64" if name in NUMBERS else "str" for name in TABLE},
-                               keep_default_na=False, na_values={name: [""] for name in NUMBERS}, quoting=QUOTE_NONE,
+        return pandas.read_csv(file, sep="\t", dtype={name: _kind_of(name) for name in columns}, keep_default_na=False,
+                               na_values={name: [""] for name in columns if _kind_of(name) != "str"}, quoting=QUOTE_NONE,
                                encoding_errors="surrogateescape", lineterminator="\n")
     except (ValueError, TypeError, OverflowError) as fault:  # of a number that is none
         raise NotATable(f"{file}: {fault}") from None
 
 
-def _check_lines(file: Path) -> None:
-    """NotATable where a file has no table of net_table in its form: pandas takes a line that is cut for a whole one."""
+def _kind_of(column: str) -> str:
+    """The type of a column, in the words of pandas."""
+    return "Int64" if column in NUMBERS else "Float64" if column in FRACTIONS else "str"
+
+
+def _checked_columns(file: Path) -> tuple[str, ...]:
+    """The columns of a file. NotATable where it has no table of net_table in its form: pandas takes a line that is cut for a
+    whole one."""
     with open(file, "rb") as lines:
-        if next(lines, b"") != line_of(TABLE):
+        head = next(lines, b"")
+        columns = columns_of(head == line_of(WITH_TOPOLOGY))
+        if head != line_of(columns):
             raise NotATable(f"{file} is no table of net_table: its first line has not the names of the columns")
         for number, line in enumerate(lines, start=2):
-            if line.count(b"\t") != len(TABLE) - 1 or not line.endswith(b"\n"):
+            if line.count(b"\t") != len(columns) - 1 or not line.endswith(b"\n"):
                 raise NotATable(f"{file}: line {number} is no row of a table, or is cut: {line[:60]!r}")
+    return columns

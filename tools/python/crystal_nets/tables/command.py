@@ -37,6 +37,7 @@ ended from outside; 75 a file of the source cannot be read now, and the same com
 example: net_table structures results --jobs 4 --archive archives"""
 SOME_REFUSED, FAILED = 1, 3
 TRY_AGAIN = 75  # EX_TEMPFAIL of sysexits.h
+FIXED = ("options", "seconds", "topology")  # what a plan has, also where its folder alone is given
 SWITCHES = {"keep_ions": "keep the cations that a framework holds as guests", "hydrogen_bonds": "hydrogen bonds are edges",
             "partial_as_full": "take partly occupied atoms as full", "accept_misfit": "take atoms that cannot be right",
             "every_copy": "each of several nets of the same atoms"}
@@ -55,6 +56,8 @@ def words() -> argparse.Namespace:
                         "each net that is told by a map")
     parser.add_argument("--keys-alone", action="store_true",
                         help="no placement and no sequences, which takes less time")
+    parser.add_argument("--topology", action="store_true", help="point symbols, vertex symbols, td10 and transitivity too: "
+                        "computed beside the program and not proved, in some 0.05 to 1.5 s a net")
     parser.add_argument("--jobs", metavar="N", type=number_of_jobs, default=processors(),
                         help="processes side by side, as many as processors where it is not given")
     parser.add_argument("--seconds", metavar="N", type=number_of_seconds,
@@ -114,7 +117,7 @@ def settings_of(asked: argparse.Namespace, source: Path) -> dict[str, Any]:
     if asked.leave_out:
         options["leave_out"] = sorted(asked.leave_out.replace(",", " ").split())
     return {"source": str(source), "at": os.getcwd(), "options": options, "seconds": asked.seconds,
-            "command": "key" if asked.keys_alone else "identify"}
+            "topology": asked.topology, "command": "key" if asked.keys_alone else "identify"}
 
 
 def planned(asked: argparse.Namespace, folder: Path, work: Path) -> Plan:
@@ -124,7 +127,7 @@ def planned(asked: argparse.Namespace, folder: Path, work: Path) -> Plan:
     if path.exists():
         plan = read_plan(path)
         settings = settings_of(asked, asked.paths[0])
-        given = settings if len(asked.paths) == 2 else {name: settings[name] for name in ("options", "seconds") if settings[name]}
+        given = settings if len(asked.paths) == 2 else {name: settings[name] for name in FIXED if settings[name]}
         _check_settings(plan, given, folder)
         check_source(plan)
         return plan
@@ -223,7 +226,7 @@ def make_table(asked: argparse.Namespace) -> int:
         check_source(plan)
         counts = join(folder, work, plan, archive, asked.jobs, asked.maps)
         if asked.parquet:
-            write_parquet(folder)
+            write_parquet(folder, plan)
     print(f"{folder / FILES[0]}: {counts.nets} nets, {counts.with_key} with a key, {counts.kinds} different, "
           f"{counts.named} with a name, {counts.nets - counts.with_key} refused")
     return SOME_REFUSED if counts.with_key < counts.nets else 0

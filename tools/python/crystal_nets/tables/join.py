@@ -18,19 +18,19 @@ from itertools import chain, groupby
 from pathlib import Path
 from typing import NamedTuple, TypeVar
 
-from ..answers import By
+from ..answers import OF_TOPOLOGY, By
 from ..archive import Archive
 from ..asking import keys
 from ..net import Net
 from ..side_by_side import end_with_parent
-from .columns import OF_A_PIECE, OF_READING, TABLE, joined, line_of, plain
+from .columns import OF_A_PIECE, OF_READING, columns_of, joined, line_of, plain
 from .piece import rows_of
-from .plan import Failed, Plan
+from .plan import Failed, Plan, has_topology
 from .sorting import merged_lines, sorted_lines
 
 FILES = ("table.tsv", "groups.tsv", "names.tsv", "refused.tsv")
 WRITTEN_BY_PARTS = ("table.tsv", "names.tsv", "refused.tsv")
-HEADS = {"table.tsv": TABLE, "groups.tsv": ("group", "number", "name", "by"), "names.tsv": ("number", "name", "name_in_archive"),
+HEADS = {"groups.tsv": ("group", "number", "name", "by"), "names.tsv": ("number", "name", "name_in_archive"),
          "refused.tsv": ("number", "source", "line", "name", "outcome", "reason")}
 FOR_TABLE = OF_A_PIECE.index("convention")  # fields of a piece that stand in the table as they are
 FOR_REFUSED = OF_A_PIECE.index("outcome") + 1
@@ -38,6 +38,11 @@ BY_KEY, SMALLER_CELL, BY_MAP = (str(by).encode() for by in (By.KEY, By.SMALLER_C
 AT_A_TIME = 32  # pieces
 Item = TypeVar("Item")
 Result = TypeVar("Result")
+
+
+def head_of(name: str, plan: Plan) -> tuple[str, ...]:
+    """The columns of one of the four files."""
+    return HEADS.get(name) or columns_of(has_topology(plan.settings))
 
 
 class Row:
@@ -142,6 +147,7 @@ class Source:
     def write_rows(self, task: Task) -> int:
         """Writes the parts of the files for nets of given groups; how many have names."""
         stretch, named = task.stretch, 0
+        last = (*OF_READING, *OF_TOPOLOGY) if has_topology(self.plan.settings) else OF_READING
         with contextlib.ExitStack() as stack:
             table, names, refused = (stack.enter_context(open(stretch.part(self.work, name), "wb")) for name in WRITTEN_BY_PARTS)
             for number, row in self.rows(stretch):
@@ -152,7 +158,7 @@ class Source:
                 by = found.by or (BY_MAP if number in task.by_maps else b"")
                 told = joined(found.names).encode(errors="surrogateescape")
                 table.write(b"\t".join((b"%d" % number, *row.fields[:FOR_TABLE], b"%d" % first if first else b"", told, by,
-                                        row["index"], *map(row.__getitem__, OF_READING))) + b"\n")
+                                        row["index"], *map(row.__getitem__, last))) + b"\n")
                 for name in found.names:
                     names.write(b"%d\t%s\t%s" % (number, row["name"], line_of((joined((name,)),))))
                 if not row["key"]:
@@ -229,7 +235,7 @@ def join(folder: Path, work: Path, plan: Plan, archive: Archive | None, jobs: in
     _write_groups(folder, source, stretches, counts)
     counts.named = sum(workers.each(Source.write_rows, _tasks(stretches, counts)))
     for name in WRITTEN_BY_PARTS:
-        _put_together(folder / f"{name}.part", line_of(HEADS[name]), [stretch.part(work, name) for stretch in stretches])
+        _put_together(folder / f"{name}.part", line_of(head_of(name, plan)), [stretch.part(work, name) for stretch in stretches])
     for name in FILES:
         (folder / f"{name}.part").replace(folder / name)
     return counts

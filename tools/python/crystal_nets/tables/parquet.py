@@ -7,8 +7,9 @@ from pathlib import Path
 from typing import Any
 
 from ..errors import PackageMissing
-from .columns import NUMBERS
-from .join import FILES, HEADS
+from .columns import FRACTIONS, NUMBERS
+from .join import FILES, head_of
+from .plan import Plan
 
 LONGEST_ROWS = 1 << 26  # bytes that are read at a time: more than any row has
 
@@ -25,19 +26,20 @@ def need_pyarrow() -> Any:
     return pyarrow
 
 
-def write_parquet(folder: Path) -> None:
-    """Writes each file of a table beside it, with the same columns and texts; numbers are int64, and null where there
-    is none; bytes that are no UTF-8 are replaced by a mark. Each comes to its place once it is whole."""
+def write_parquet(folder: Path, plan: Plan) -> None:
+    """Writes each file of a table beside it, with the same columns and texts; numbers are int64, `td10` is float64, and null
+    where there is none; bytes that are no UTF-8 are replaced by a mark. Each comes to its place once it is whole."""
     for name in FILES:
         path = (folder / name).with_suffix(".parquet")
         part = path.with_name(f"{path.name}.part")
-        _write(folder / name, part, HEADS[name])
+        _write(folder / name, part, head_of(name, plan))
         part.replace(path)
 
 
 def _write(source: Path, target: Path, columns: tuple[str, ...]) -> None:
     pyarrow = need_pyarrow()
-    types = {name: pyarrow.int64() if name in NUMBERS else pyarrow.string() for name in columns}
+    types = {name: pyarrow.int64() if name in NUMBERS else pyarrow.float64() if name in FRACTIONS else pyarrow.string()
+             for name in columns}
     content = codecs.EncodedFile(open(source, "rb"), "utf-8", errors="replace")
     reader = pyarrow.csv.open_csv(
         content, pyarrow.csv.ReadOptions(block_size=LONGEST_ROWS),

@@ -17,7 +17,8 @@ from ..net import Net
 from ..reading import net_of_chunk, nets_of_file
 from ..texts.net_text import chunks_of
 from .columns import OF_A_PIECE, escaped, joined, line_of
-from .plan import AFTER_ITEM, FORM, WHOLE, Piece, Plan, Portion
+from .listed import NOTHING, listed
+from .plan import AFTER_ITEM, FORM, WHOLE, Piece, Plan, Portion, has_topology
 
 Found = tuple[str, Net]  # the file, and a net of it
 
@@ -30,7 +31,8 @@ def make_rows(path: Path, piece: Piece) -> None:
     """Writes the rows of a piece."""
     found = [item for portion in piece.portions for item in nets_of_portion(portion, piece.settings)]
     answers = _answers([net for _, net in found], piece.settings)
-    content = b"".join(_row(source, answer) for (source, _), answer in zip(found, answers, strict=True))
+    of_topology = listed if has_topology(piece.settings) else lambda _: NOTHING
+    content = b"".join(_row(source, answer, of_topology(answer)) for (source, _), answer in zip(found, answers, strict=True))
     write_whole(path, with_head(piece.mark, content))
 
 
@@ -89,8 +91,9 @@ def _nets_of(portion: Portion, content: bytes, settings: dict[str, Any]) -> Iter
                 yield refused.of_provenance(refused.provenance.at_line(chunk.opening_line))
 
 
-def _row(source: str, answer: Answer) -> bytes:
-    """The row of an answer. Of a net that is looked for in archives of nets without a key it has the block."""
+def _row(source: str, answer: Answer, of_topology: tuple[str, ...]) -> bytes:
+    """The row of an answer, with the fields of its topology. Of a net that is looked for in archives of nets without a key it
+    has the block."""
     sizes = (answer.net.provenance.line, answer.dimension, answer.vertices, answer.edges, answer.classes, answer.denominator)
     copies = str(answer.copies) if answer.vertices else ""
     at, dimension, vertices, edges, classes, scale = (str(size or "") for size in sizes)
@@ -100,7 +103,7 @@ def _row(source: str, answer: Answer) -> bytes:
     block = answer.net.block.decode(errors="surrogateescape") if answer.index and not small_key else ""
     fields = (escaped(source), at, escaped(answer.name), short_outcome(answer.outcome), dimension, vertices, edges, classes,
               scale, copies, answer.key, sequences, *_of_reading(answer.net), escaped(reason), str(answer.by), answer.index,
-              small_key, escaped(answer.certificate), escaped(block))
+              small_key, escaped(answer.certificate), escaped(block), *of_topology)
     assert len(fields) == len(OF_A_PIECE)
     return line_of(fields)
 

@@ -15,8 +15,9 @@ from ..errors import in_words
 from ..reading import GZIP, holds_structure, is_known
 from ..texts.net_text import chunks_of
 
-FORM = "net_table 4"
+FORM = "net_table 5"
 MOST_BLOCKS = 1_000      # of a piece: few enough that little is lost where a run breaks off
+MOST_LISTED = 40         # blocks of a piece, where what databases list is computed of each
 MOST_BYTES = 4_000_000
 MOST_STRUCTURES = 40     # files, which take longer than blocks
 BEGINNING = 65_536       # bytes by which a file without a known ending is told
@@ -35,6 +36,11 @@ class SourceAway(Exception):
     @classmethod
     def of(cls, fault: OSError) -> SourceAway:
         return cls(f"{in_words(fault)}; the same command tries again")
+
+
+def has_topology(settings: dict[str, Any]) -> bool:
+    """Whether what databases list is asked for."""
+    return bool(settings.get("topology"))
 
 
 class Portion(NamedTuple):
@@ -170,9 +176,10 @@ def plan_of(files: list[Path], settings: dict[str, Any]) -> Plan:
     plan = Plan(settings)
     piece: list[Portion] = []
     structures = blocks = size = 0
-    for portion, count in portions_of(files):
+    most_blocks = min(MOST_BLOCKS, MOST_LISTED) if has_topology(settings) else MOST_BLOCKS
+    for portion, count in portions_of(files, most_blocks):
         is_whole = portion.kind == WHOLE
-        if piece and (structures + is_whole > MOST_STRUCTURES or blocks + count > MOST_BLOCKS
+        if piece and (structures + is_whole > MOST_STRUCTURES or blocks + count > most_blocks
                       or size + portion.length > MOST_BYTES):
             plan.pieces.append(piece)
             piece, structures, blocks, size = [], 0, 0, 0
@@ -183,14 +190,15 @@ def plan_of(files: list[Path], settings: dict[str, Any]) -> Plan:
     return plan
 
 
-def portions_of(files: list[Path]) -> Iterator[tuple[Portion, int]]:
-    """The portions of the files, and how many blocks each has; what is read as a whole counts as none."""
+def portions_of(files: list[Path], most_blocks: int) -> Iterator[tuple[Portion, int]]:
+    """The portions of the files, with so many blocks at most, and how many blocks each has; what is read as a whole counts
+    as none."""
     for file in files:
         if _is_whole(file):
             content = file.read_bytes()
             yield Portion(str(file), 0, len(content), 0, WHOLE, sum_of(content)), 0
         else:
-            yield from _portions_of_text(file)
+            yield from _portions_of_text(file, most_blocks)
 
 
 def _is_whole(file: Path) -> bool:
@@ -200,7 +208,7 @@ def _is_whole(file: Path) -> bool:
     return beginning.startswith(GZIP) or holds_structure(beginning, file.name)
 
 
-def _portions_of_text(file: Path) -> Iterator[tuple[Portion, int]]:
+def _portions_of_text(file: Path, most_blocks: int) -> Iterator[tuple[Portion, int]]:
     """The blocks of a text, as many in a portion as a piece may have. The last one is given even where it is empty, so
     that a file without nets is told of."""
     kind = following = BLOCKS
@@ -208,7 +216,7 @@ def _portions_of_text(file: Path) -> Iterator[tuple[Portion, int]]:
     told = hashlib.sha256()
     with open(file, "rb") as content:
         for chunk in chunks_of(content):
-            if blocks and (blocks == MOST_BLOCKS or end - begin + chunk.size > MOST_BYTES):
+            if blocks and (blocks == most_blocks or end - begin + chunk.size > MOST_BYTES):
                 yield Portion(str(file), begin, end - begin, lines_before, kind, told.hexdigest()[:16]), blocks
                 begin, lines_before, blocks, kind, told = end, lines_read, 0, following, hashlib.sha256()
             told.update(b"".join(chunk.lines))

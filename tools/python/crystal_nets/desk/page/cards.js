@@ -181,7 +181,7 @@ function fillCard(article, card, tools) {
   const without = card.key ? 'no name in the archives' : '';
   const key = card.key && make('details', {}, make('summary', {}, 'key'), make('code', {}, card.key));
   const facts = make('div', { className: 'facts' }, card.reason && reasonOf(card.reason), beyondOf(card.beyond), partsOf(card.parts),
-    sizesOf(card), ...notesOf(entry), key, savesOf(card, article), tools);
+    sizesOf(card), ...notesOf(entry), listedOf(entry), key, savesOf(card, article), tools);
   const drawn = [picturesOf(card, card.title), structureOf(entry)].filter(Boolean);
   article.replaceChildren(...[make('h3', {}, card.title || 'net'), namesOf(card.names || [], without),
     make('div', { className: 'beside' }, ...drawn, facts)].filter(Boolean));

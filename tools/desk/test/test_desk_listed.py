@@ -1,0 +1,33 @@
+"""What databases list of a net, as the card of a net shows it."""
+
+import json
+import unittest
+
+from desk import need_desk
+from testing import TOP
+
+need_desk()
+from crystal_nets import Net, read  # noqa: E402
+from crystal_nets.desk.listed import NOT_THERE, listed  # noqa: E402
+
+NETS = {net.name.split(",")[0]: net for net in read(TOP / "archives/common.cgd")}
+SIX_RINGS = ".".join(["6(2)"] * 6)
+
+
+class Listed(unittest.TestCase):
+    def test_what_is_known_of_nets(self):
+        self.assertEqual(listed(NETS["dia"]), {"point_symbol": "6^6", "td10": "981.00", "transitivity": "11", "vertex_symbols": [
+            {"symbol": SIX_RINGS, "vertices": 2, "connectivity": 4}]})
+        told = listed(NETS["rtl"])
+        self.assertEqual((told["point_symbol"], told["transitivity"]), ("{4.6^2}2{4^2.6^10.8^3}", "22"))
+        self.assertEqual([(kind["vertices"], kind["connectivity"]) for kind in told["vertex_symbols"]], [(4, 3), (2, 6)])
+        self.assertEqual([kind["symbol"] for kind in listed(NETS["bcu"])["vertex_symbols"]], [""])
+        json.dumps(told)
+
+    def test_nets_of_which_there_is_none(self):
+        woven = Net([(1, 1, (2, 0)), (1, 1, (0, 1))])
+        self.assertEqual([listed(net) for net in (woven, Net.refused("nothing"))], [{"reason": NOT_THERE}] * 2)
+
+
+if __name__ == "__main__":
+    unittest.main()
