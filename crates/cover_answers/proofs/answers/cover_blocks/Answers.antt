@@ -17,8 +17,8 @@ loop-block-preserved c =
     let i = at.block-index in
     subst (λ os. AreAnsweredOn cell (views found) (i + 1) (at.number + 1) (at.all_covered && c.in_ok-judged.judged.accepted) os c.cover_block.new.covers.items)
     (sym c.in_ok-push.ensures.ok)
-    (answered_next cell found i at.number at.all_covered c.in_ok-judged.judged.accepted at.outcomes at.covers.items c.cover_block.new.covers.items c.block-item.result
-    c.in_ok-judged.judged.told c.loop-block-test.true c.block-item.is
+    (answered_next cell found i at.number at.all_covered c.in_ok-judged.judged.accepted at.outcomes at.covers.items c.cover_block.new.covers.items
+    c.block-item.result c.in_ok-judged.judged.told c.loop-block-test.true c.block-item.is
     at.invariant c.in_ok-judged.ensures.answered c.in_ok-judged.ensures.printable)
 
 pub returns : goal.returns
