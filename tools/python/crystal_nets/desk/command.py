@@ -54,9 +54,10 @@ def port(text: str) -> int:
 
 def main() -> int:
     asked = words()
+    ending = Ending()
     for name in ENDS:
         if signal.getsignal(name) != signal.SIG_IGN:  # as by nohup
-            signal.signal(name, interrupt)
+            signal.signal(name, ending)
     try:
         from .service import Service
     except ModuleNotFoundError as missing:
@@ -77,15 +78,23 @@ def main() -> int:
             path = write_leading_file(folder, service.address)
             threading.Thread(target=open_browser, args=(path,), daemon=True).start()
         try:
-            service.serve()
+            service.serve(lambda: ending.has_come)
         except KeyboardInterrupt:  # once is enough: the rest ends what runs
             for name in ENDS:
                 signal.signal(name, signal.SIG_IGN)
     return 0
 
 
-def interrupt(*_: object) -> None:
-    raise KeyboardInterrupt
+class Ending:
+    """What is done where a signal comes that ends the server. That it came is kept, since Python drops an interrupt that
+    comes while it imports or lets go of something."""
+
+    def __init__(self) -> None:
+        self.has_come = False
+
+    def __call__(self, *_: object) -> None:
+        self.has_come = True
+        raise KeyboardInterrupt
 
 
 def failed(reason: str) -> int:

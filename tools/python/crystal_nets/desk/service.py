@@ -4,7 +4,7 @@ from __future__ import annotations
 
 import socket
 import sys
-from collections.abc import Sequence
+from collections.abc import Callable, Sequence
 from pathlib import Path
 from typing import Any
 
@@ -39,6 +39,7 @@ class Server(ThreadedWSGIServer):
     def __init__(self, listener: socket.socket, app: Flask, connections: Connections) -> None:
         super().__init__("127.0.0.1", listener.getsockname()[1], app, handler=Handler, fd=listener.fileno())
         self.connections = connections
+        self.has_ended: Callable[[], bool] = lambda: False
 
     def process_request(self, request: Any, client_address: Any) -> None:
         self.connections.add(request)
@@ -50,6 +51,8 @@ class Server(ThreadedWSGIServer):
 
     def service_actions(self) -> None:
         """What is done at each look for new connections."""
+        if self.has_ended():
+            raise KeyboardInterrupt
         self.connections.end_late()
 
     def handle_error(self, *_: object) -> None:
@@ -74,8 +77,9 @@ class Service:
     def address(self) -> str:
         return f"http://127.0.0.1:{self.guard.port}/{self.guard.token}/"
 
-    def serve(self) -> None:
-        """Answers requests until it is interrupted, or `stop` is called from another thread."""
+    def serve(self, has_ended: Callable[[], bool] = lambda: False) -> None:
+        """Answers requests until it is interrupted or has ended, or `stop` is called from another thread."""
+        self._server.has_ended = has_ended
         self._server.serve_forever(poll_interval=0.2)
 
     def stop(self) -> None:
