@@ -7,7 +7,7 @@ import subprocess
 from collections import defaultdict
 
 from odd_cells import text_of_odd_nets
-from testing import IS_LONG, PROGRAM, TOOLS, TOP, FolderTest, need_commands, need_program, run
+from testing import IS_LONG, PROGRAM, TOOLS, TOP, FolderTest, need_commands, need_modules, need_program, run
 
 BATCH = TOOLS / "batch"
 ARCHIVE = TOP / "archives/common.archive"
@@ -177,6 +177,7 @@ class Texts(FolderTest):
         self.assertEqual(self.rows("small", index), self.whole())
 
     def test_a_block_that_is_too_long_is_told(self):
+        need_modules("gemmi", "numpy")
         done = run(BATCH / "split_nets", "--bytes", 20, self.file, self.folder / "tiny", status=1)
         self.assertIn(b"the block at line 4 has", done.stderr)
 

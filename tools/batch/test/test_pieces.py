@@ -10,7 +10,6 @@ from pathlib import Path
 from testing import TOOLS, TOP, FolderTest, need_modules, run
 
 from crystal_nets.answers import OF_TOPOLOGY
-from crystal_nets.blocks.converter import Converter
 from crystal_nets.reading import nets_of_cgd, read
 from crystal_nets.tables.plan import plan_of
 
@@ -69,6 +68,8 @@ class Pieces(FolderTest):
         return [row.split("\t") for row in next(pieces.glob(f"p{number:05}.*.rows")).read_text().splitlines()]
 
     def test_all_readers_read_mixed_texts_alike(self):
+        need_modules("numpy")
+        from crystal_nets.blocks.converter import Converter
         for text in (MIXED, MIXED.replace("\n", "\r\n"), "\ufeff" + MIXED, GRAPH.format("first") + MIXED):
             first = [("first", 2)] if "first" in text else []
             places = first + [(name, line + 7 * len(first)) for name, line in PLACES]

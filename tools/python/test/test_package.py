@@ -89,6 +89,7 @@ class Types(unittest.TestCase):
 class Commands(unittest.TestCase):
     def test_each_script_starts_the_command_of_its_name(self):
         """And stands alone but for that: what it does is in the package."""
+        need_modules("gemmi", "numpy", "scipy", "spglib", "flask")
         for name in commands.HOMES:
             script, = TOOLS.glob(f"*/{name}")
             self.assertIn(f'run("{name}")', script.read_text(), name)
@@ -108,7 +109,7 @@ class Installed(FolderTest):
         """Without the network; it finds its archives, its page, its types and the program, and has the commands. Nothing
         is left beside the sources."""
         need_program()
-        need_modules("pip", "setuptools", "wheel")
+        need_modules("pip", "setuptools", "wheel", "gemmi", "numpy", "scipy", "spglib", "flask")
         source = self.folder / "repository/tools/python"
         shutil.copytree(FOLDER, source, ignore=shutil.ignore_patterns("test", "__pycache__"))
         (self.folder / "repository/archives").mkdir()

@@ -6,7 +6,7 @@ import unittest.mock
 from itertools import combinations, product
 
 from odd_cells import in_odd_cell, in_larger_cell
-from testing import IS_LONG, PROGRAM, TOP, FolderTest, long_test, need_program, run
+from testing import IS_LONG, PROGRAM, TOP, FolderTest, long_test, need_modules, need_program, run
 
 from crystal_nets import (Archive, By, Net, NotAnArchive, NotANet, ProgramFailed, check, cover, group,  # noqa: E402
                           identify, identify_all, keys, read, same, svg)
@@ -195,6 +195,7 @@ class Names(FolderTest):
         self.assertEqual((answer.outcome.name, answer.names, answer.by), ("WidePlacement", ("fan",), By.SMALLER_CELL))
 
     def test_a_cell_that_the_program_does_not_read(self):
+        need_modules("numpy")
         large = Net(in_larger_cell(list(COMMON["dia"].graph.canonical().edges), [[5, 0, 0], [0, 5, 0], [0, 0, 3]]))
         answer = identify(large, archive=Archive.of([COMMON["dia"]]))
         self.assertEqual((answer.outcome.name, len(large.vertices)), ("TooManyVertices", 600))
