@@ -1,6 +1,6 @@
 -- Rows and lines without a fault make a graph that may be read, whose edges are within the limits.
 use Rattle.std.proofs.Common.{◌≡◌, ◌⊎◌, ◌≤◌, ℤ, pos, ◌-ℤ◌, neg_ℤ, arith, ◌≢◌, ℕ, Bool, true, false, List, map, length, ap, cond, [], ◌∷◌, ◌++◌, refl}
-use Rattle.std.proofs.Common.{sym, subst, ◌∙◌, ◌==◌, nat_lt, not, ◌||◌, ◌&&◌, Option, None, Some, ◌-◌}
+use Rattle.std.proofs.Common.{sym, subst, ◌∙◌, ◌==◌, nat_lt, not, ◌||◌, ◌&&◌, None, ◌-◌}
 use Rattle.std.proofs.lemmas.List.Elements.{All-push, All-weaker, All-map}
 use Rattle.std.proofs.lemmas.Bool.Decides.{Decides-int_eq, Decides-eqb, nat_tests}
 use Rattle.std.proofs.{lemmas.Int.ints, lemmas.Slice.Eq.bytes_eq-Decides, lemmas.Bool.and_from, lemmas.Bool.false≢true, lemmas.List.map-append}
@@ -12,12 +12,13 @@ use Rattle.periodic_net.specs.Limits.{most_shift, most_vertices, most_edges, IsS
 use Rattle.periodic_net.specs.Graph.{IsNormalSpelling, Arc, IsEdge, IsGraph}
 use Rattle.cgd_read.specs.Spelling.{IsSmallPart, spelled, is_forward, normal, edge_of}
 use Rattle.cgd_read.specs.Edges.{vertices_of, edges_of, first_size, has_rows, with_new, same_edge, row_edge, vertex_number, is_self_edge}
-use Rattle.cgd_read.specs.Faults.{fault_of, has_row, is_end, rows_in, first_true, table, has_wrong_length, has_other_length, has_self_edge}
+use Rattle.cgd_read.specs.Faults.{fault_of, has_row, is_end, rows_in, table, has_wrong_length, has_other_length, has_self_edge}
 use Rattle.cgd_read.specs.Faults.{brings_many_vertices, brings_many_edges, ends_without_rows}
 use Rattle.cgd_read.specs.Graphs.{graph_of, net_of, IsReadGraph}
-use Rattle.cgd_read.specs.{Lines.FieldsView, Lines.LineView, Reading.IsSmallFields, Reading.IsFlat, declared.edge.RawEdge.RawEdge, Blocks.AllFalse}
-use Rattle.cgd_read.specs.{declared.block.BlockFaultKind.BlockFaultKind, Views.RawView}
+use Rattle.cgd_read.specs.{Lines.FieldsView, Lines.LineView, Reading.IsSmallFields, Reading.IsFlat, declared.edge.RawEdge.RawEdge}
+use Rattle.cgd_read.specs.{Views.RawView}
 use Rattle.integers.specs.Vectors.{vector, IsWithin}
+use Rattle.cgd_read.proofs.Units.{all_false}
 use Rattle.cgd_read.proofs.Places.{all_fail, longer, numbered, same_number}
 use Rattle.cgd_read.proofs.Spelling.{normal_spelled, IsZero}
 
@@ -181,15 +182,6 @@ make_row rows row well no_self same few_vertices few_edges make =
     }
 
 -- Lines without a fault make a graph that may be read.
-
-pub this_false : (t : Bool) (kind : BlockFaultKind) (later : Option BlockFaultKind) → cond t (Some kind) later ≡ None → (t ≡ false) × (later ≡ None)
-this_false t kind later h = search arith
-
-pub all_false : (tests : List (BlockFaultKind × Bool)) → first_true tests ≡ None → AllFalse tests
-all_false [] e = tt
-all_false (test ∷ tests) e =
-    let h = this_false test.1 test.0 (first_true tests) e in
-    (h.0, all_false tests h.1)
 
 -- what a line without a fault passes
 record Passes (earlier : List LineView) (line : LineView) : Type 0 where

@@ -3,4 +3,5 @@ pub mod Spelling
 mod FieldLists
 mod Graphs
 mod Places
+mod Units
 mod Decided

@@ -4,6 +4,7 @@ use Rattle.std.specs.Prelude.{ℕ, Bool, true, false, ◌||◌, ◌&&◌, ◌==�
 use Rattle.std.specs.Prelude.{if◌then◌else◌}
 use Rattle.periodic_net.specs.Limits.{most_vertices, most_edges}
 use Rattle.cgd_read.specs.Lines.{FieldsView, LineView, is_bare}
+use Rattle.cgd_read.specs.Units.{first_true}
 use Rattle.cgd_read.specs.Edges.{vertices_of, edges_of, is_self_edge, first_size, has_rows}
 use Rattle.cgd_read.specs.declared.line.LineKind.{LineKind}
 use Rattle.cgd_read.specs.declared.line.LineKind.TheVariants.{Opening, Name, Edges, End, Unknown, Bare, Broken}
@@ -157,11 +158,6 @@ count_tests earlier line =
 -- all sentences, in their order
 abbrev pub table : List LineView → LineView → List (BlockFaultKind × Bool)
 table earlier line = word_tests earlier line ++ (row_tests earlier line ++ count_tests earlier line)
-
--- the first kind whose sentence is true
-abbrev pub first_true : List (BlockFaultKind × Bool) → Option BlockFaultKind
-first_true [] = None
-first_true (test ∷ tests) = if test.1 then Some test.0 else first_true tests
 
 -- the fault of a line: the first of the table whose sentence is true
 abbrev pub fault_of : List LineView → LineView → Option BlockFaultKind

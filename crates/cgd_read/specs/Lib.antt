@@ -7,5 +7,6 @@ pub mod Names
 pub mod Reading
 pub mod Spelling
 pub mod States
+pub mod Units
 pub mod Values
 pub mod Views

@@ -5,7 +5,8 @@ ghost use Rattle.periodic_net.specs.Limits.{most_vertices};
 ghost use Rattle.cgd_read.specs.Lines.{LineView};
 ghost use Rattle.cgd_read.specs.Views.{line_view, fields_view};
 ghost use Rattle.cgd_read.specs.Reading.{IsSmallFields};
-ghost use Rattle.cgd_read.specs.Faults.{is_second_name, has_bad_token, has_other_length, ends_without_rows, word_tests, row_tests, count_tests, first_true, fault_of, or_later};
+ghost use Rattle.cgd_read.specs.Faults.{is_second_name, has_bad_token, has_other_length, ends_without_rows, word_tests, row_tests, count_tests, fault_of, or_later};
+ghost use Rattle.cgd_read.specs.Units.{first_true};
 ghost use Rattle.cgd_read.specs.States.{names_in, IsStateAfter};
 
 use crate::line::Line;

@@ -7,7 +7,8 @@ use Rattle.std.specs.{Prelude.All, Prelude.codes, Fmt.decimal}
 use Rattle.std.proofs.lemmas.{Fmt.decimal_injective, Fmt.length-decimal-le, List.length-map, Slice.Eq.bytes_eq-Decides}
 use Rattle.periodic_net.specs.Graph.{Arc, Graph, Vertex, vertex, IsEdge, IsNormalSpelling, IsQuotientVertex}
 use Rattle.cgd_read.specs.declared.line.LineKind.TheVariants.{Opening, Edges, End}
-use Rattle.cgd_read.specs.Blocks.{in_order, AllFalse, AllPass, graph_block, blocks_from, with_body, or_fault}
+use Rattle.cgd_read.specs.Units.{in_order, AllFalse, AllPass, or_fault}
+use Rattle.cgd_read.specs.Blocks.{graph_units, graph_block, blocks_from, with_body, malformed}
 use Rattle.cgd_read.specs.{Lines.LineView, Lines.FieldsView, Spelling.edge_of, Graphs.net_of, Graphs.graph_of}
 use Rattle.integers.proofs.{vectors.Laws.vector_equal, lists.ListOrder.not_below_itself}
 use Rattle.periodic_net.specs.{Limits.most_vertices, Limits.most_edges, Limits.most_shift, Maps.Iso}
@@ -152,13 +153,13 @@ module _ (name : Option (List ℕ)) (G : Graph) (v n : ℕ) (rest : List ℕ) (d
       whole.is at ∙ ap (λ (ls : List LineView). word_line Opening (codes "PERIODIC_GRAPH") n ∷ ls) tail
 
 -- no block begins among lines that pass
-pub passed_over : (earlier later : List LineView) → AllPass earlier → blocks_from true (in_order earlier later) ≡ blocks_from true later
+pub passed_over : (earlier later : List LineView) → AllPass graph_units earlier → blocks_from true (in_order earlier later) ≡ blocks_from true later
 passed_over [] later h = refl
 passed_over (line ∷ earlier) later h = passed_over earlier (line ∷ later) h.2 ∙ ap (λ (t : Bool). cond t (blocks_from false later) (blocks_from true later)) h.1
 
 -- these lines have passed: those before the rows and the rows of these edges, the nearest first
 pub record HavePassed (d : ℕ) (name : Option (List ℕ)) (lines : List LineView) (done : List Arc) : Type 0 where
-  pub pass : AllPass lines
+  pub pass : AllPass graph_units lines
   pub under : under_edges lines ≡ true
   pub rows : rows_in lines ≡ rows_of d done
   pub name_is : name_of lines ≡ name
@@ -275,8 +276,9 @@ module _ (d n : ℕ) (dim : (d ≡ 2) ⊎ (d ≡ 3)) (name : Option (List ℕ)) 
       → HavePassed d name lines (e ∷ done)
       → graph_block opening.number [] (in_order lines (closing_line m ∷ left)) ≡ with_body opening.number lines (Net (net_of (rows_in lines)))
   block_is opening e done lines left m edges few h =
-      from_start opening.number lines (closing_line m ∷ left) h.pass
-      ∙ ap (λ fault. or_fault fault m opening.number lines (with_body opening.number lines (Net (net_of (rows_in lines)))))
+      from_start graph_units opening.number lines (closing_line m ∷ left) h.pass
+      ∙ ap (λ fault. or_fault fault (λ kind. with_body opening.number lines (malformed m kind))
+      (with_body opening.number lines (Net (net_of (rows_in lines)))))
       (none_true (table lines (closing_line m)) (end_passes e done lines m edges few h))
 
 -- an edge in normal spelling is no loop with shift 0

@@ -14,7 +14,8 @@ use Rattle.key_theory.proofs.CallerLemmas.{arc_no_point, arc_by_edge, edge_is_ar
 use Rattle.cgd_read.specs.Spelling.{spelled, is_forward, normal, edge_of}
 use Rattle.cgd_read.specs.Edges.{with_new, vertices_of, vertex_number, row_edge, same_edge, edges_of, first_size, has_rows}
 use Rattle.cgd_read.specs.Lines.{FieldsView, LineView, fields_from, kind_of, line_of, token_lines}
-use Rattle.cgd_read.specs.Blocks.{with_body, or_fault, graph_block, block_by, block_of, blocks_from, blocks_of}
+use Rattle.cgd_read.specs.Units.{or_fault}
+use Rattle.cgd_read.specs.Blocks.{with_body, malformed, graph_block, block_by, block_of, blocks_from, blocks_of}
 use Rattle.cgd_read.specs.Faults.{is_end, has_row, rows_in, table, fault_of}
 use Rattle.cgd_read.specs.Views.{RawView, BodyView, Net, BlockView}
 use Rattle.cgd_read.proofs.CallerLemmas.{IsZero, normal_spelled, size_now, flat_tokens, all_false}
@@ -326,8 +327,8 @@ graph_flat opening earlier (line ∷ lines) h old = by (fault_of earlier line) (
   where
     by : (fault : Option BlockFaultKind) (t : Bool) → fault_of earlier line ≡ fault
         → (AreFlatRows (rows_in (line ∷ earlier)) → IsFlatBlock (graph_block opening (line ∷ earlier) lines))
-        → IsFlatBlock (or_fault fault line.number opening earlier (cond t (with_body opening earlier (Net (net_of (rows_in earlier))))
-        (graph_block opening (line ∷ earlier) lines)))
+        → IsFlatBlock (or_fault fault (λ kind. with_body opening earlier (malformed line.number kind))
+        (cond t (with_body opening earlier (Net (net_of (rows_in earlier)))) (graph_block opening (line ∷ earlier) lines)))
     by (Some kind) t e on = tt
     by None true e on = record { rows = rows_in earlier; is = refl; flat = old }
     by None false e on = on (one_more earlier line e h.0 old)

@@ -1,5 +1,6 @@
 -- The faults of a line in an item: each is a sentence about the line and the lines of its item before it, the nearest first.
-use Rattle.std.specs.Prelude.{ℕ, Bool, ◌||◌, ◌&&◌, is_some, is_none, List, [], ◌∷◌, Option, None, Some, if◌then◌else◌, codes}
+use Rattle.std.specs.Prelude.{ℕ, Bool, ◌||◌, ◌&&◌, is_some, is_none, List, [], ◌∷◌, Option, None, codes}
+use Rattle.cgd_read.specs.Units.{first_true}
 use Rattle.keyline_import.specs.Names.{name_of_fields}
 use Rattle.keyline_import.specs.Lines.{LineView, is_key, is_id, is_end}
 use Rattle.keyline_import.specs.Rows.{KeyView}
@@ -55,11 +56,6 @@ table earlier line =
     ∷ (BadId, is_bad_id line)
     ∷ (Missing, ends_without earlier line)
     ∷ []
-
--- the first kind whose sentence is true
-abbrev pub first_true : List (ItemFaultKind × Bool) → Option ItemFaultKind
-first_true [] = None
-first_true (test ∷ tests) = if test.1 then Some test.0 else first_true tests
 
 -- the fault of a line: the first of the table whose sentence is true
 abbrev pub fault_of : List LineView → LineView → Option ItemFaultKind

@@ -1,5 +1,6 @@
 use Rattle.std.proofs.Common.{◌∙◌, sym, ap}
-use Rattle.cgd_read.specs.Faults.{word_tests, row_tests, count_tests, first_true, or_later}
+use Rattle.cgd_read.specs.Faults.{word_tests, row_tests, count_tests, or_later}
+use Rattle.cgd_read.specs.Units.{first_true}
 use Rattle.cgd_read.{specs.Views.line_view, proofs.Decided.first_of_three}
 use Rattle.cgd_read.proofs.state.State.judge.Goals as goal
 
