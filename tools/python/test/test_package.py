@@ -93,7 +93,7 @@ class Commands(unittest.TestCase):
         for name in commands.HOMES:
             script, = TOOLS.glob(f"*/{name}")
             self.assertIn(f'run("{name}")', script.read_text(), name)
-            self.assertLess(len(script.read_text().splitlines()), 11, name)
+            self.assertLess(len(script.read_text().splitlines()), 15, name)
             self.assertIn(f"usage: {name}".encode(), run(script, "--help").stdout, name)
 
     def test_what_has_not_the_form_is_told_in_one_line(self):
