@@ -1,16 +1,16 @@
 // The arcs from each vertex, made from the edges.
-ghost use Rattle.std.specs.Prelude.{◌≡◌, ◌<◌, ◌≤◌, [], All, length, map, IfOk, OnOk};
+ghost use Rattle.std.specs.Prelude.{◌≡◌, ◌<◌, ◌≤◌, ◌++◌, [], All, filter, length, map, IfOk, OnOk};
 ghost use Rattle.integers.specs.Vectors.{IsWithin};
 ghost use Rattle.periodic_net.specs.Limits.{most_shift};
 ghost use Rattle.periodic_net.specs.Graph.{both_ways, reverse_of};
-ghost use Rattle.quotient_graph.specs.Building.{with_arc, HaveArcs, IsSortedFrom, AreSortedFrom, EdgeFits, AreStars};
+ghost use Rattle.quotient_graph.specs.Building.{with_arc, HaveArcs, IsSortedFrom, AreSortedFrom, EdgeFits, AreStars, is_spelled, spelled_in};
 
 use crate::{Arc, NoMemory};
 use smallvec::SmallVec;
 use std::alloc::Global;
 
-/// The arcs from a vertex; up to six need no allocation.
-pub type Star<const D: usize> = SmallVec<Arc<D>, 6>;
+/// The arcs from a vertex; up to twelve need no allocation.
+pub type Star<const D: usize> = SmallVec<Arc<D>, 12>;
 
 fn sort_star<const D: usize>(star: &mut Star<D>)
     ensures { IsSortedFrom star.old.items star.new.items }
@@ -86,4 +86,31 @@ pub fn stars_of<const D: usize>(
     push_edges(&mut stars, edges)?;
     sort_stars(&mut stars);
     Ok(stars)
+}
+
+// Puts those arcs of a star that spell their edges last in the list.
+fn push_spelled<const D: usize>(edges: &mut Vec<Arc<D>>, star: &[Arc<D>]) -> Result<(), NoMemory>
+    ensures { OnOk result (edges.new.items ≡ edges.old.items ++ filter is_spelled star.now) }
+{
+    for arc in star {
+        if arc.is_normal() {
+            edges.push(*arc)?;
+        }
+    }
+    Ok(())
+}
+
+/// The edges of a graph, read off its stars in their order; they take the room of another list.
+pub fn edges_in<const D: usize>(
+    stars: &[Star<D>],
+    room: Vec<Arc<D>>,
+) -> Result<Vec<Arc<D>>, NoMemory>
+    ensures { IfOk result (λ edges. edges.items ≡ spelled_in (map (λ s. s.items) stars.now)) }
+{
+    let mut edges = room;
+    edges.clear();
+    for star in stars {
+        push_spelled(&mut edges, star.as_slice())?;
+    }
+    Ok(edges)
 }
