@@ -113,7 +113,7 @@ edge_there G stars h e i =
     let star = h.each e.from edge.from in
     let arc = arc_is_from G e.from e (contains_from_in (arcs G) e (edge_in G.edges e i)) refl in
     let inside = is_in (star_at stars e.from) e (Contains-permutation (arcs_from G e.from) (star_at stars e.from) e star.all
-        (contains_from_in (arcs_from G e.from) e arc)) in
+    (contains_from_in (arcs_from G e.from) e arc)) in
     let low = edge.from.0 in let high = edge.from.1 in let c = h.count in
     pieces_in (filter is_spelled) stars (star_at stars e.from) e (in_at stars (e.from - 1) [] (omega (arith, low, high, c)))
     (filter_in is_spelled (star_at stars e.from) e inside (passes e edge.spelling))
