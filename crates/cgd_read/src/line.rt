@@ -106,6 +106,7 @@ fn kind_of_word(word: &[u8]) -> LineKind
 
 impl LineKind {
     /// The kind of a line that begins with this token.
+    #[inline(always)]
     pub fn of(first: &Token<'_>) -> LineKind
         ensures { result ≡ kind_of first.now.kind first.now.text.now }
     {

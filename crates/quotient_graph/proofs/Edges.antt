@@ -10,10 +10,10 @@ use Rattle.integers.proofs.lists.Members.{pairs_from_apart, IsIn, contains_from_
 use Rattle.integers.proofs.lists.Permutations.{permuted_pairs, rising_from_pairs, same_rising}
 use Rattle.integers.specs.Vectors.{vector, HasDimension, IsWithin, IsBelow}
 use Rattle.integers.proofs.{vectors.Laws.ends_tell, vectors.Laws.unit_base, lists.ListOrder.below_transitive, lists.ListOrder.not_below_itself}
-use Rattle.periodic_net.specs.Graph.{Arc, arc, IsGraph, IsEdge, Graph, arcs_from, IsArc, IsVertex, Vertex, both_ways, reverse_of}
+use Rattle.periodic_net.specs.Graph.{Arc, arc, IsGraph, IsEdge, IsQuotientVertex, Graph, arcs_from, IsArc, IsVertex, Vertex, both_ways, reverse_of}
 use Rattle.periodic_net.specs.Limits.{most_shift, most_edges, IsSmall}
 use Rattle.periodic_net.{specs.Maps.Iso, proofs.CallerLemmas.arcs_apart, proofs.CallerLemmas.identity_periodic}
-use Rattle.quotient_graph.specs.Stars.{graph_with, IsGraphInMemory, IsInOrder}
+use Rattle.quotient_graph.specs.Stars.{graph_with, star_at, IsGraphInMemory, IsInOrder, IsStar}
 use Rattle.quotient_graph.specs.{Order.arc_numbers, Order.AreRising, Building.EdgeFits, Building.AreStars, EdgeLists.IsEdgeAmong, EdgeLists.AreEdgesOfGraph}
 use Rattle.cgd_read.specs.{Spelling.edge_of, declared.edge.RawEdge.RawEdge}
 use Rattle.integers.proofs.lists.ListOrder as rising
@@ -80,6 +80,15 @@ listed_flat d n es h = All-weaker (IsEdgeAmong d n) (λ e. HasDimension d (vecto
 pub edges_fit : (G : Graph) → IsGraph G → IsSmall G → All (EdgeFits G.vertices) G.edges
 edges_fit G g s k d l = search arith
 
+-- the list of a vertex is its star
+pub is_star : (G : Graph) (stars : List (List Arc)) → IsGraph G → AreStars G.vertices G.edges stars → (u : ℕ) → IsQuotientVertex G u
+    → IsStar G u (star_at stars u)
+is_star G stars g h u v = record {
+  all = (h.each u v.0 v.1).same;
+  rising = rising_from_sorted _ (h.each u v.0 v.1).sorted (permuted_pairs (arcs_from G u) _ (h.each u v.0 v.1).same
+      (pairs_from_apart (arcs_from G u) (arcs_apart G g u)));
+}
+
 -- a graph with its lists of arcs
 pub is_in_memory : (G : Graph) (stars : List (List Arc)) → IsGraph G → IsSmall G → AreRising G.edges → AreStars G.vertices G.edges stars
     → IsGraphInMemory G stars
@@ -88,11 +97,7 @@ is_in_memory G stars g s r h = record {
   small = s;
   rising = r;
   count = h.count;
-  each = λ u v. record {
-    all = (h.each u v.0 v.1).same;
-    rising = rising_from_sorted _ (h.each u v.0 v.1).sorted (permuted_pairs (arcs_from G u) _ (h.each u v.0 v.1).same
-        (pairs_from_apart (arcs_from G u) (arcs_apart G g u)));
-  };
+  each = is_star G stars g h;
 }
 
 -- the edges of a graph in another order
@@ -119,20 +124,6 @@ pub flat_edges : (d n : ℕ) (es : List RawEdge) → IsGraph (graph_with d n (ma
 flat_edges d n es h k e l two =
     let edge = rw (get_or-map edge_of es k e) at (h.edges k (edge_of e) (subst (λ n. k < n) (sym (length-map es edge_of)) l)) in
     edge.shift two
-
--- the edges of a graph, sorted
-pub record SortedEdges (d n : ℕ) (es : List Arc) : Type 0 where
-  pub is_graph : IsGraph (graph_with d n es)
-  pub small : IsSmall (graph_with d n es)
-  pub rising : AreRising es
-
-pub sorted_edges : (d n : ℕ) (given es : List Arc) → IsGraph (graph_with d n given) → IsSmall (graph_with d n given) → IsPermutation given es
-    → IsSorted arc_cmp es → SortedEdges d n es
-sorted_edges d n given es g s p up = record {
-  is_graph = reordered d n given es p g;
-  small = reordered_small d n given es p s;
-  rising = rising_after_sort given es p up g.different;
-}
 
 -- A graph with its edges in order is one, and has the arcs and the net of the graph.
 

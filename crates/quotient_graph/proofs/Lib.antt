@@ -1,4 +1,5 @@
 pub mod CallerLemmas
 pub mod Edges
 pub mod Positions
+pub mod Spelled
 pub mod Stars

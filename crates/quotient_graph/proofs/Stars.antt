@@ -1,17 +1,18 @@
 -- Lists of arcs from each vertex or class: their number, how they are made and sorted, and what arcs they have.
 use Rattle.std.proofs.Common.{◌≡◌, ◌∙◌, ap, List, length, map, sum_by, ◌≢◌, inl, inr, ℕ, ◌-◌, ◌+◌, ◌<◌, ◌≤◌, ◌==◌, true, false, [], ◌∷◌, ◌++◌, take, All}
-use Rattle.std.proofs.Common.{get_or, set, refl, sym, subst, arith, get_or-set_same, get_or-set_other, length-set, add-one, zero, suc, Bool}
-use Rattle.std.proofs.lemmas.List.{map-set, get_or-map, length-map, append-nil, get_or_default}
+use Rattle.std.proofs.Common.{cond, get_or, set, refl, sym, subst, arith, get_or-set_same, get_or-set_other, length-set, add-one, zero, suc, Bool}
+use Rattle.std.proofs.lemmas.List.{map-set, map_more, get_or-map, length-map, append_assoc, append-nil, get_or_default}
 use Rattle.std.proofs.lemmas.List.Elements.{filter-append, recursion_from_All, All-from_recursion}
 use Rattle.std.specs.List.{filter, AllByRecursion, Contains}
-use Rattle.std.{proofs.lemmas.List.Concat.length-flat_map, proofs.lemmas.List.Folds.flat_map-map, proofs.lemmas.List.Sorted.IsPermutation-sym}
+use Rattle.std.{proofs.lemmas.List.Concat.length-flat_map, proofs.lemmas.List.Folds.flat_map-map, proofs.lemmas.List.Sorted.IsPermutation-sym, specs.List.Sorted.IsPermutation}
+use Rattle.std.proofs.lemmas.List.Sorted.{IsPermutation-cons, IsPermutation-middle, IsPermutation-refl, IsPermutation-trans}
 use Rattle.std.{proofs.lemmas.List.Sorted.Contains-permutation, proofs.lemmas.Bool.cases_eq, proofs.lemmas.Bool.Decides.Decides-eqb}
 use Rattle.std.{proofs.lemmas.Grind.common_steps, proofs.Math.Seq.take-suc, specs.Prelude.flat_map, specs.Prelude.slice_index_or}
 use Rattle.periodic_net.specs.Graph.{Arc, both_ways, reverse_of, Graph, arcs, arcs_from, IsArc, IsGraph}
 use Rattle.periodic_net.proofs.CallerLemmas.{arc_inside, from_is_arc, arc_is_from}
 use Rattle.periodic_net.specs.{Classes.ClassArc, Limits.most_shift, Limits.IsSmall}
 use Rattle.quotient_graph.specs.Stars.{IsStar, IsArcFrom}
-use Rattle.quotient_graph.specs.Building.{with_arc, HaveArcs, EdgeFits, IsSortedFrom, AreSortedFrom}
+use Rattle.quotient_graph.specs.Building.{back_and_forth, with_arc, AreStars, HaveArcs, EdgeFits, IsSortedFrom, AreSortedFrom}
 use Rattle.quotient_graph.specs.ClassNets.{class_star}
 use Rattle.integers.proofs.lists.Members.{all_at, IsIn, in_from_contains, contains_from_in}
 use Rattle.integers.specs.Vectors.{Vector, opposite, IsWithin}
@@ -45,25 +46,59 @@ pub have_more : (n : ℕ) (stars : List (List Arc)) (as' : List Arc) (a : Arc) �
     → HaveArcs n (with_arc stars a) (as' ++ a ∷ [])
 have_more n stars as' a low high h = grind (arith, length-set, cases_eq, get_or-set_same, filtered_same, get_or-set_other, filtered_other)
 
--- both arcs of one more edge
-pub have_edge : (n : ℕ) (stars : List (List Arc)) (es : List Arc) (e : Arc) → (1 ≤ e.from) × (e.from ≤ n) → (1 ≤ e.to) × (e.to ≤ n)
-    → HaveArcs n stars (both_ways es)
-    → HaveArcs n (with_arc (with_arc stars e) (reverse_of e)) (both_ways (es ++ e ∷ []))
-have_edge n stars es e from to h =
-    rw (both_more es e) (have_more n (with_arc stars e) (both_ways es ++ e ∷ []) (reverse_of e) to.0 to.1 (have_more n stars (both_ways es) e from.0 from.1 h))
-  where
-    both_more : (es : List Arc) (e : Arc) → both_ways (es ++ e ∷ []) ≡ (both_ways es ++ e ∷ []) ++ reverse_of e ∷ []
-    both_more [] e = refl
-    both_more (x ∷ es) e = ap (λ (t : List Arc). x ∷ reverse_of x ∷ t) (both_more es e)
-
--- both arcs of the edge at place i
-pub have_edge_at : (n : ℕ) (stars : List (List Arc)) (es : List Arc) (i : ℕ) (e : Arc) → i < length es → e ≡ get_or es i e → All (EdgeFits n) es
-    → HaveArcs n stars (both_ways (take i es)) → HaveArcs n (with_arc (with_arc stars e) (reverse_of e)) (both_ways (take (i + 1) es))
-have_edge_at n stars es i e l is fit h =
+-- the reverse of the edge at place i
+pub have_back_at : (n : ℕ) (stars : List (List Arc)) (es : List Arc) (i : ℕ) (e : Arc) → i < length es → e ≡ get_or es i e → All (EdgeFits n) es
+    → HaveArcs n stars (map reverse_of (take i es)) → HaveArcs n (with_arc stars (reverse_of e)) (map reverse_of (take (i + 1) es))
+have_back_at n stars es i e l is fit h =
     let fits = subst (EdgeFits n) (sym is) (fit i e l) in
-    subst (λ t. HaveArcs n (with_arc (with_arc stars e) (reverse_of e)) (both_ways t))
-    (sym (ap (λ (k : ℕ). take k es) (add-one i) ∙ take-suc es i e l ∙ ap (λ (a : Arc). take i es ++ a ∷ []) (sym is)))
-    (have_edge n stars (take i es) e fits.from fits.to h)
+    subst (HaveArcs n (with_arc stars (reverse_of e)))
+    (sym (map_more reverse_of es i e l ∙ ap (λ (a : Arc). map reverse_of (take i es) ++ reverse_of a ∷ []) (sym is)))
+    (have_more n stars (map reverse_of (take i es)) (reverse_of e) fits.to.0 fits.to.1 h)
+
+-- the edge at place i, after other arcs
+pub have_edge_at : (n : ℕ) (stars : List (List Arc)) (earlier es : List Arc) (i : ℕ) (e : Arc) → i < length es → e ≡ get_or es i e → All (EdgeFits n) es
+    → HaveArcs n stars (earlier ++ take i es) → HaveArcs n (with_arc stars e) (earlier ++ take (i + 1) es)
+have_edge_at n stars earlier es i e l is fit h =
+    let fits = subst (EdgeFits n) (sym is) (fit i e l) in
+    subst (HaveArcs n (with_arc stars e))
+    (append_assoc earlier (take i es) (e ∷ []) ∙ ap (λ (t : List Arc). earlier ++ t) (sym (
+    ap (λ (k : ℕ). take k es) (add-one i) ∙ take-suc es i e l ∙ ap (λ (a : Arc). take i es ++ a ∷ []) (sym is))))
+    (have_more n stars (earlier ++ take i es) e fits.from.0 fits.from.1 h)
+
+-- The arcs of both ways, whatever their order.
+
+one_edge_more : (b c : Bool) (e r : Arc) (both back forth : List Arc) → IsPermutation both (back ++ forth)
+    → IsPermutation (cond b (e ∷ cond c (r ∷ both) both) (cond c (r ∷ both) both)) (cond c (r ∷ back) back ++ cond b (e ∷ forth) forth)
+one_edge_more false false e r both back forth h = h
+one_edge_more false true e r both back forth h = IsPermutation-cons r both (back ++ forth) h
+one_edge_more true false e r both back forth h =
+    IsPermutation-trans (e ∷ both) (e ∷ (back ++ forth)) (back ++ e ∷ forth) (IsPermutation-cons e both (back ++ forth) h)
+    (IsPermutation-sym (back ++ e ∷ forth) (e ∷ (back ++ forth)) (IsPermutation-middle back e forth))
+one_edge_more true true e r both back forth h =
+    IsPermutation-trans (e ∷ r ∷ both) (e ∷ r ∷ (back ++ forth)) (r ∷ (back ++ e ∷ forth))
+    (IsPermutation-cons e (r ∷ both) (r ∷ (back ++ forth)) (IsPermutation-cons r both (back ++ forth) h))
+    (IsPermutation-sym ((r ∷ back) ++ e ∷ forth) (e ∷ ((r ∷ back) ++ forth)) (IsPermutation-middle (r ∷ back) e forth))
+
+chosen_both : (p : Arc → Bool) (es : List Arc) → IsPermutation (filter p (both_ways es)) (filter p (map reverse_of es) ++ filter p es)
+chosen_both p [] = IsPermutation-refl []
+chosen_both p (e ∷ es) =
+    one_edge_more (p e) (p (reverse_of e)) e (reverse_of e) (filter p (both_ways es)) (filter p (map reverse_of es)) (filter p es) (chosen_both p es)
+
+-- lists that have the reverses and the edges, sorted, are the stars
+pub sorted_stars : (n : ℕ) (es : List Arc) (old new : List (List Arc)) → HaveArcs n old (back_and_forth es) → AreSortedFrom old new → AreStars n es new
+sorted_stars n es old new h s = record {
+  count = s.count ∙ h.count;
+  each = λ u low high.
+      let c = h.count in
+      let one = s.each (u - 1) (omega (arith, low, high, c)) in
+      let leaves_u = λ (a : Arc). a.from == u in
+      let put = h.each u low high ∙ filter-append leaves_u (map reverse_of es) es in
+      record {
+        same = IsPermutation-trans (filter leaves_u (both_ways es)) (filter leaves_u (map reverse_of es) ++ filter leaves_u es) (get_or new (u - 1) [])
+            (chosen_both leaves_u es) (subst (λ (xs : List Arc). IsPermutation xs (get_or new (u - 1) [])) put one.same);
+        sorted = one.sorted;
+      };
+}
 
 -- Lists that are sorted one after the other.
 

@@ -1,10 +1,10 @@
 -- A graph's lists of arcs while they are made.
-use Rattle.std.specs.Prelude.{◌≡◌, ℕ, ◌-◌, ◌<◌, ◌≤◌, List, [], ◌∷◌, ◌++◌, length, filter, ◌==◌, slice_set, slice_index_or}
+use Rattle.std.specs.Prelude.{◌≡◌, ℕ, ◌-◌, ◌<◌, ◌≤◌, List, [], ◌∷◌, ◌++◌, length, map, filter, flat_map, ◌==◌, ◌||◌, ◌&&◌, Bool, nat_lt, slice_set, slice_index_or}
 use Rattle.std.specs.List.Sorted.{IsPermutation, IsSorted}
-use Rattle.std.specs.Ordering.{int_cmp}
+use Rattle.std.specs.Ordering.{int_cmp, is_lt}
 use Rattle.std.specs.Cmp.Lexicographic.{slice_cmp}
-use Rattle.periodic_net.specs.Graph.{Arc, both_ways}
-use Rattle.integers.specs.Vectors.{IsWithin}
+use Rattle.periodic_net.specs.Graph.{Arc, both_ways, reverse_of}
+use Rattle.integers.specs.Vectors.{IsWithin, parts, zero_vector}
 use Rattle.periodic_net.specs.Limits.{most_shift}
 use Rattle.quotient_graph.specs.Order.{arc_numbers}
 use Rattle.quotient_graph.specs.Stars.{star_at}
@@ -17,6 +17,10 @@ with_arc stars a = slice_set stars (a.from - 1) (star_at stars a.from ++ a ∷ [
 pub record HaveArcs (n : ℕ) (stars : List (List Arc)) (as' : List Arc) : Type 0 where
   pub count : length stars ≡ n
   pub each : (u : ℕ) → 1 ≤ u → u ≤ n → star_at stars u ≡ filter (λ a. a.from == u) as'
+
+-- the reverses of edges, and then the edges
+abbrev pub back_and_forth : List Arc → List Arc
+back_and_forth edges = map reverse_of edges ++ edges
 
 -- the same arcs, sorted by tail, head and shift
 pub record IsSortedFrom (old new : List Arc) : Type 0 where
@@ -38,3 +42,11 @@ pub record EdgeFits (n : ℕ) (e : Arc) : Type 0 where
 pub record AreStars (n : ℕ) (edges : List Arc) (stars : List (List Arc)) : Type 0 where
   pub count : length stars ≡ n
   pub each : (u : ℕ) → 1 ≤ u → u ≤ n → IsSortedFrom (filter (λ a. a.from == u) (both_ways edges)) (star_at stars u)
+
+-- whether the arc is the spelling of its edge
+abbrev pub is_spelled : Arc → Bool
+is_spelled a = nat_lt a.from a.to || (a.from == a.to && is_lt (slice_cmp int_cmp (parts 3 zero_vector) (parts 3 a.shift)))
+
+-- the arcs of the lists that are spellings, in their order
+abbrev pub spelled_in : List (List Arc) → List Arc
+spelled_in stars = flat_map (filter is_spelled) stars

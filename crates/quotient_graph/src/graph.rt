@@ -3,10 +3,9 @@ ghost use Rattle.std.specs.Prelude.{◌≡◌, ◌⊎◌, All, Contains, length,
 ghost use Rattle.periodic_net.specs.Graph.{Arc as NetArc, IsArc, IsGraph, IsQuotientVertex};
 ghost use Rattle.periodic_net.specs.Limits.{IsSmall};
 ghost use Rattle.quotient_graph.specs.Order.{AreRising};
-ghost use Rattle.quotient_graph.specs.Building.{IsSortedFrom};
 ghost use Rattle.quotient_graph.specs.Stars.{IsArcFrom, IsInOrder, IsStar, graph_with};
 
-use crate::build::{Star, stars_of};
+use crate::build::{Star, edges_in, stars_of};
 use crate::{Arc, NoMemory};
 use std::alloc::Global;
 use std::marker::Model;
@@ -33,12 +32,6 @@ impl<const D: usize> Model for Graph<D> {
         (map (λ s. s.items) g.stars.items) };
 }
 
-fn sort_edges<const D: usize>(edges: &mut Vec<Arc<D>>)
-    ensures { IsSortedFrom edges.old.items edges.new.items }
-{
-    edges.as_mut_slice().sort_unstable();
-}
-
 impl<const D: usize> Graph<D> {
     /// The graph with n vertices and these edges, which stand in rising order.
     #[tactic(auto, using(crate::proofs::Edges::is_in_memory, crate::proofs::Edges::edges_fit))]
@@ -62,9 +55,13 @@ impl<const D: usize> Graph<D> {
         requires small { IsSmall (graph_with D n edges.items) }
         ensures { IfOk result (IsInOrder (graph_with D n edges.entry.items)) }
     {
-        let mut edges = edges;
-        sort_edges(&mut edges);
-        Graph::with_edges(alloc, n, edges)
+        let stars = stars_of(alloc, n as usize, &edges)?;
+        let edges = edges_in(&stars, edges)?;
+        Ok(Graph {
+            vertices: n,
+            edges,
+            stars,
+        })
     }
 
     pub fn dimension(&self) -> u8

@@ -8,7 +8,7 @@ loop-star-init g c = sorted_none (map (λ s. s.items) c.args.stars.now)
 pub loop-star-preserved : goal.loop-star-preserved
 loop-star-preserved g c =
     sorted_more (λ s. s.items) (map (λ s. s.items) c.args.stars.now) c.loop-star.stars c.loop-star.star-index c.star-item.result c.sort_star.new.star
-    (omega (arith, c.loop-star-test.true, c.loop-star.auto.stars)) c.sort_star.ensures c.loop-star.invariant
+    (omega (arith, c.loop-star-test.true, c.loop-star.auto.stars)) c.in_ok-sort_star.ensures c.loop-star.invariant
 
 pub returns : goal.returns
 returns g c =
