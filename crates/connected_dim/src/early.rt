@@ -59,7 +59,7 @@ fn may_tell_more<const D: usize>(gs: &[Vect<D>], walk: &Vect<D>) -> bool {
     !walk.is_zero() && !gs.contains(walk)
 }
 
-/// Whether few of the closed walks show that the net is connected.
+/// Whether few of the closed walks show that the net is connected. That they do not says nothing.
 pub fn shows_early<const D: usize>(
     alloc: Global,
     g: &Graph<D>,

@@ -1,5 +1,5 @@
 // How many of the closed walks of a net are independent.
-ghost use Rattle.std.specs.Prelude.{◌≡◌, ◌≢◌, ◌≤◌, ◌^◌, ◌≤ℤ◌, ◌<ℤ◌, unsigned_abs, neg_ℤ, pos, None, All, Contains, IfSome};
+ghost use Rattle.std.specs.Prelude.{◌≡◌, ◌≢◌, ◌↔◌, ◌≤◌, ◌^◌, ◌≤ℤ◌, ◌<ℤ◌, unsigned_abs, neg_ℤ, pos, None, All, Contains, IfSome, IsTrue, not};
 ghost use Rattle.integers.specs.Vectors.{vector, zero_vector, cross, dot, IsWithin};
 ghost use Rattle.connected_dim.specs.Orthogonal.{IsFlatNormal};
 ghost use Rattle.connected_dim.specs.Full.{IsVolume};
@@ -24,12 +24,11 @@ fn first_some<const D: usize>(gs: &[Vect<D>]) -> Option<Vect<D>>
     ensures some { IfSome result (λ g. g ≢ zero_vector) }
     ensures none { result ≡ None → All (λ g. g ≡ zero_vector) gs.now }
 {
-    for g in gs {
-        if !g.is_zero() {
-            return Some(*g);
-        }
-    }
-    None
+    gs.iter().copied().find(
+        |g| -> bool
+            ensures { IsTrue (not result) ↔ (g.now ≡ zero_vector) }
+        { !g.is_zero() },
+    )
 }
 
 // The first vector that is not on the line of v.
@@ -38,12 +37,11 @@ fn first_apart<const D: usize>(gs: &[Vect<D>], v: &Vect<D>) -> Option<Vect<D>>
     ensures some { IfSome result (λ g. cross v.now g ≢ zero_vector) }
     ensures none { result ≡ None → All (λ g. cross v.now g ≡ zero_vector) gs.now }
 {
-    for g in gs {
-        if !v.is_parallel(g) {
-            return Some(*g);
-        }
-    }
-    None
+    gs.iter().copied().find(
+        |g| -> bool
+            ensures { IsTrue (not result) ↔ (cross v.entry.now g.now ≡ zero_vector) }
+        { !v.is_parallel(g) },
+    )
 }
 
 // The first vector that is not orthogonal to c.
@@ -54,12 +52,13 @@ fn first_off<const D: usize>(gs: &[Vect<D>], c: &Triple) -> Option<Vect<D>>
     ensures some { IfSome result (λ g. dot c.now g ≢ pos 0) }
     ensures none { result ≡ None → All (λ g. dot c.now g ≡ pos 0) gs.now }
 {
-    for g in gs {
-        if !g.is_orthogonal(c) {
-            return Some(*g);
-        }
-    }
-    None
+    gs.iter().copied().find(
+        |g| -> bool
+            requires small { IsWithin most_closed g.now }
+            requires c { IsWithin most_normal c.now }
+            ensures { IsTrue (not result) ↔ (dot c.entry.now g.now ≡ pos 0) }
+        { !g.is_orthogonal(c) },
+    )
 }
 
 // The normal where all vectors are 0, or on a line that has no first part.

@@ -62,24 +62,6 @@ fn full_verdict<const D: usize>(
     }
 }
 
-// By all closed walks.
-fn verdict_by_all<const D: usize>(
-    alloc: Global,
-    g: &Graph<D>,
-    found: &[Option<Shift<D>>],
-) -> Result<Verdict, NoMemory>
-    requires walks { AreWalks g.now 1 found.now }
-    requires all { All IsSome found.now }
-    ensures { IfOk result (IsVerdict g.now) }
-{
-    let dim = g.dimension();
-    let gs = generators(alloc, g, found)?;
-    match rank_of(&gs) {
-        Rank::Full(m) => full_verdict(alloc, g, found, &gs, m),
-        Rank::Below(c) => Ok(Verdict::Flat(flat_split(alloc, dim, c, found)?)),
-    }
-}
-
 /// Whether the net is connected, from a walk to each vertex.
 pub fn verdict_by_walks<const D: usize>(
     alloc: Global,
@@ -93,5 +75,10 @@ pub fn verdict_by_walks<const D: usize>(
     if shows_early(alloc, g, found)? {
         return Ok(Verdict::Whole);
     }
-    verdict_by_all(alloc, g, found)
+    let dim = g.dimension();
+    let gs = generators(alloc, g, found)?;
+    match rank_of(&gs) {
+        Rank::Full(m) => full_verdict(alloc, g, found, &gs, m),
+        Rank::Below(c) => Ok(Verdict::Flat(flat_split(alloc, dim, c, found)?)),
+    }
 }

@@ -1,5 +1,5 @@
 // Closed walks whose shifts are independent.
-ghost use Rattle.std.specs.Prelude.{◌≡◌, ◌≢◌, ◌*◌, pos, None, All, Contains, IfSome};
+ghost use Rattle.std.specs.Prelude.{◌≡◌, ◌≢◌, ◌↔◌, ◌*◌, pos, None, All, Contains, IfSome, IsTrue, not};
 ghost use Rattle.integers.specs.Vectors.{zero_vector, cross, dot, HasDimension, IsWithin};
 ghost use Rattle.periodic_net.specs.Limits.{most_closed};
 ghost use Rattle.standard_map.specs.CellBounds.{most_minor};
@@ -22,12 +22,11 @@ fn first_some<const D: usize>(turns: &[Turn<D>]) -> Option<Turn<D>>
     ensures some { IfSome result (λ t. t.shift ≢ zero_vector) }
     ensures none { result ≡ None → All (λ t. t.shift ≡ zero_vector) turns.now }
 {
-    for turn in turns {
-        if !turn.shift.is_zero() {
-            return Some(*turn);
-        }
-    }
-    None
+    turns.iter().copied().find(
+        |turn| -> bool
+            ensures { IsTrue (not result) ↔ (turn.now.shift ≡ zero_vector) }
+        { !turn.shift.is_zero() },
+    )
 }
 
 // The first turn whose shift is not on the line of v.
@@ -36,12 +35,11 @@ fn first_apart<const D: usize>(turns: &[Turn<D>], v: &Vect<D>) -> Option<Turn<D>
     ensures some { IfSome result (λ t. cross v.now t.shift ≢ zero_vector) }
     ensures none { result ≡ None → All (λ t. cross v.now t.shift ≡ zero_vector) turns.now }
 {
-    for turn in turns {
-        if !v.is_parallel(&turn.shift) {
-            return Some(*turn);
-        }
-    }
-    None
+    turns.iter().copied().find(
+        |turn| -> bool
+            ensures { IsTrue (not result) ↔ (cross v.entry.now turn.now.shift ≡ zero_vector) }
+        { !v.is_parallel(&turn.shift) },
+    )
 }
 
 // The first turn whose shift is not orthogonal to c.
@@ -52,12 +50,13 @@ fn first_off<const D: usize>(turns: &[Turn<D>], c: &Triple) -> Option<Turn<D>>
     ensures some { IfSome result (λ t. dot c.now t.shift ≢ pos 0) }
     ensures none { result ≡ None → All (λ t. dot c.now t.shift ≡ pos 0) turns.now }
 {
-    for turn in turns {
-        if !turn.shift.is_orthogonal(c) {
-            return Some(*turn);
-        }
-    }
-    None
+    turns.iter().copied().find(
+        |turn| -> bool
+            requires small { IsWithin most_closed turn.now.shift }
+            requires c { IsWithin most_minor c.now }
+            ensures { IsTrue (not result) ↔ (dot c.entry.now turn.now.shift ≡ pos 0) }
+        { !turn.shift.is_orthogonal(c) },
+    )
 }
 
 // The cross product of two shifts.

@@ -1,8 +1,8 @@
 use Rattle.std.proofs.Common.{List, subst, ◌∙◌}
 use Rattle.integers.specs.Vectors.{Vector}
-use Rattle.connected_dim.specs.{Generators.generators, Flat.flat_colouring, Orthogonal.IsFlatNormal}
+use Rattle.connected_dim.specs.{Flat.flat_colouring, Orthogonal.IsFlatNormal}
 use Rattle.connected_dim.proofs.{Generated.flat_split_is, Splits.flat_refusal}
-use Rattle.connected_dim.proofs.verdicts.verdict_by_all.Goals as goal
+use Rattle.connected_dim.proofs.verdicts.verdict_by_walks.Goals as goal
 
 pub returns : goal.returns
 returns g c =

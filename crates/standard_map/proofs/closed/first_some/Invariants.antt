@@ -1,7 +1,0 @@
-use Rattle.std.proofs.Common.{◌≡◌, ℕ, ◌<◌, slice_index_or}
-use Rattle.integers.specs.Vectors.{zero_vector}
-use Rattle.standard_map.specs.Turns.{Turn}
-use Rattle.standard_map.proofs.closed.first_some.Given as goal
-
-abbrev pub invariant-loop-turn : goal.invariant-loop-turn
-invariant-loop-turn g l = (k : ℕ) (t : Turn) → k < l.turn-index → (slice_index_or l.turns k t).shift ≡ zero_vector
