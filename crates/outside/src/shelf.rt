@@ -85,7 +85,7 @@ impl From<NoMemory> for InFault {
 }
 
 /// The most bytes that `read_whole` asks for at once.
-const PIECE: usize = 16384;
+const PIECE: usize = 8192;
 
 /// All the bytes of a name, where they are at most `limit`. It reads until a read gives nothing or
 /// `limit + 1` bytes were taken, and never asks for more than these: at most `limit + 2` reads.

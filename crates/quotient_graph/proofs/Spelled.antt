@@ -8,7 +8,8 @@ use Rattle.std.specs.{Prelude.nat_lt, List.filter, List.Sorted.IsPermutation, Or
 use Rattle.std.specs.{Cmp.int_cmp_is, Cmp.Lexicographic.slice_cmp, declared.cmp.Ordering.Ordering, declared.cmp.Ordering.TheVariants.Less}
 use Rattle.integers.specs.Vectors.{parts, IsBelow}
 use Rattle.integers.proofs.lists.ListOrder.{apart_of_rising}
-use Rattle.integers.proofs.lists.Members.{IsIn, in_append, in_filter, filter_in, in_at, pieces_in, all_from_in, all_at, is_in, contains_from_in, apart_from_pairs, no_longer}
+use Rattle.integers.proofs.lists.Members.{IsIn, in_append, in_filter, filter_in, in_at, pieces_in, all_from_in, all_at, is_in}
+use Rattle.integers.proofs.lists.Members.{contains_from_in, apart_from_pairs, no_longer}
 use Rattle.integers.proofs.lists.Permutations.{IsRising, rising_from_pairs, permutation_of_members}
 use Rattle.periodic_net.specs.Graph.{Arc, Graph, IsArc, IsEdge, IsGraph, IsNormalSpelling, IsQuotientVertex, arcs, arcs_from, reverse_of}
 use Rattle.periodic_net.specs.Limits.{IsSmall}
@@ -38,7 +39,8 @@ abbrev StarsFrom : Graph → ℕ → List (List Arc) → Type 0
 StarsFrom G first [] = Unit {0}
 StarsFrom G first (s ∷ rest) = IsStar G first s × StarsFrom G (suc first) rest
 
-stars_from : (G : Graph) (first : ℕ) (stars : List (List Arc)) → ((k : ℕ) → k < length stars → IsStar G (first + k) (get_or stars k [])) → StarsFrom G first stars
+stars_from : (G : Graph) (first : ℕ) (stars : List (List Arc)) → ((k : ℕ) → k < length stars → IsStar G (first + k) (get_or stars k []))
+    → StarsFrom G first stars
 stars_from G first [] h = tt
 stars_from G first (s ∷ rest) h = (
   (let e : first + 0 ≡ first = omega arith in subst (λ u. IsStar G u s) e (h 0 (omega arith))),

@@ -4,7 +4,8 @@ use Rattle.std.proofs.Common.{cond, get_or, set, refl, sym, subst, arith, get_or
 use Rattle.std.proofs.lemmas.List.{map-set, map_more, get_or-map, length-map, append_assoc, append-nil, get_or_default}
 use Rattle.std.proofs.lemmas.List.Elements.{filter-append, recursion_from_All, All-from_recursion}
 use Rattle.std.specs.List.{filter, AllByRecursion, Contains}
-use Rattle.std.{proofs.lemmas.List.Concat.length-flat_map, proofs.lemmas.List.Folds.flat_map-map, proofs.lemmas.List.Sorted.IsPermutation-sym, specs.List.Sorted.IsPermutation}
+use Rattle.std.{proofs.lemmas.List.Concat.length-flat_map, proofs.lemmas.List.Folds.flat_map-map}
+use Rattle.std.{proofs.lemmas.List.Sorted.IsPermutation-sym, specs.List.Sorted.IsPermutation}
 use Rattle.std.proofs.lemmas.List.Sorted.{IsPermutation-cons, IsPermutation-middle, IsPermutation-refl, IsPermutation-trans}
 use Rattle.std.{proofs.lemmas.List.Sorted.Contains-permutation, proofs.lemmas.Bool.cases_eq, proofs.lemmas.Bool.Decides.Decides-eqb}
 use Rattle.std.{proofs.lemmas.Grind.common_steps, proofs.Math.Seq.take-suc, specs.Prelude.flat_map, specs.Prelude.slice_index_or}
