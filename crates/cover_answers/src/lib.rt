@@ -17,6 +17,7 @@ pub use lines::{push_covered, push_refused};
 pub use std::alloc::AllocError as NoMemory;
 
 /// The blocks of printed graphs, one after another, are read as these graphs, up to isomorphism.
+#[tactic(auto, using(crate::proofs::ReadBack::blocks_are_read_back))]
 pub fn blocks_are_read_back()
     ensures theorem { BlocksAreReadBack }
 {}
@@ -28,6 +29,7 @@ pub fn covers_may_be_printed()
 
 /// Where all blocks of a text are covered, the text of the covers is read as the nets that were
 /// given, each on the cell.
+#[tactic(auto, using(crate::proofs::Rounds::covers_are_read_back))]
 pub fn covers_are_read_back()
     ensures theorem { CoversAreReadBack }
 {}

@@ -40,6 +40,7 @@ pub fn tables_that_join()
 {}
 
 /// A table passes exactly where its map is an isomorphism.
+#[tactic(auto, using(crate::proofs::Theorems::tables_give_iso))]
 pub fn tables_give_iso()
     ensures theorem { TablesGiveIso }
 {}

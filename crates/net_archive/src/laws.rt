@@ -7,6 +7,7 @@ pub fn archives_have_no_fault()
 {}
 
 /// A text is that of one archive alone.
+#[tactic(auto, using(crate::proofs::OneFault::one_archive))]
 pub fn one_archive()
     ensures theorem { OneArchive }
 {}
@@ -17,6 +18,7 @@ pub fn one_fault()
 {}
 
 /// The fault of adding under a name is one, running out of memory aside.
+#[tactic(auto, using(crate::proofs::NewEntry::one_add_fault))]
 pub fn one_add_fault()
     ensures theorem { OneAddFault }
 {}

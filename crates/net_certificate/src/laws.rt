@@ -3,12 +3,14 @@ ghost use Rattle.net_certificate.specs.Laws.{AnswersTellGraphs, FoundMapsPass, O
 ghost use Rattle.net_certificate.specs.TextLaws.{BadLineIsFirst, TextsTellMaps};
 
 /// A text is that of one list of maps at most, and has one first bad line at most, and never both.
+#[tactic(auto, using(crate::proofs::WholeTexts::texts_tell))]
 pub fn texts_tell_maps()
     ensures theorem { TextsTellMaps }
 {}
 
 /// No text of maps has the same lines up to the first bad one, and the lines before it meet every
 /// condition that they alone decide.
+#[tactic(auto, using(crate::proofs::WholeTexts::bad_line_is_first))]
 pub fn bad_line_is_first()
     ensures theorem { BadLineIsFirst }
 {}

@@ -7,11 +7,13 @@ pub fn one_cover()
 {}
 
 /// Two faults that apply are one, running out of memory aside. So the first cause is reported.
+#[tactic(auto, using(crate::proofs::OneCover::one_cover_fault))]
 pub fn one_cover_fault()
     ensures theorem { OneCoverFault }
 {}
 
 /// Where a graph has a cover within the limits, no fault applies but running out of memory.
+#[tactic(auto, using(crate::proofs::OneCover::cover_is_not_refused))]
 pub fn cover_is_not_refused()
     ensures theorem { CoverIsNotRefused }
 {}

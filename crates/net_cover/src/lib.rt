@@ -20,6 +20,7 @@ pub use laws::{cover_is_not_refused, one_cover, one_cover_fault};
 pub use std::alloc::AllocError as NoMemory;
 
 /// The net of a cover is the net.
+#[tactic(auto, using(crate::proofs::CoverNet::covers_are_isomorphic))]
 pub fn covers_are_isomorphic()
     ensures theorem { CoversAreIsomorphic }
 {}

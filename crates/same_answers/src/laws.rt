@@ -3,11 +3,13 @@ ghost use Rattle.same_answers.specs.Laws.{OneSameness, SameIsVerified};
 ghost use Rattle.same_answers.specs.VerifyingLaws.{OneVerification};
 
 /// Two answers that are due to the same bytes have one status and one text.
+#[tactic(auto, using(crate::proofs::Verified::one_verification))]
 pub fn one_verification()
     ensures theorem { OneVerification }
 {}
 
 /// Of blocks one answer is due: one status and one text.
+#[tactic(auto, using(crate::proofs::Sameness::one_sameness))]
 pub fn one_sameness()
     ensures theorem { OneSameness }
 {}

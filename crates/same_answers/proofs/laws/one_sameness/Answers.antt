@@ -1,5 +1,0 @@
-use Rattle.same_answers.proofs.Sameness.{one_sameness}
-use Rattle.same_answers.proofs.laws.one_sameness.Goals as goal
-
-pub returns : goal.returns
-returns c = record { theorem = one_sameness }
