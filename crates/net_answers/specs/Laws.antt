@@ -1,6 +1,6 @@
 -- What is due is one, and ends a task in few ways.
-use Rattle.std.specs.Prelude.{◌≡◌, ℕ, ◌≤◌, true, List, [], length, Option, None, Some, unwrap_or}
-use Rattle.cgd_read.specs.Blocks.{blocks_of, most_blocks}
+use Rattle.std.specs.Prelude.{◌≡◌, ℕ, ◌≤◌, true, List, [], length, Option, Some, unwrap_or}
+use Rattle.cgd_read.specs.Blocks.{blocks_of}
 use Rattle.command_words.specs.Tasks.{Task, Migrate, Union}
 use Rattle.net_archive.specs.Archives.{ArchiveView}
 use Rattle.workload.specs.Workload.{most_nets, workload}

@@ -6,7 +6,7 @@ use Rattle.key_theory.{specs.Key.Shape, proofs.CallerLemmas.keys_decide_bare, pr
 use Rattle.least_key.specs.KeyedNets.{KeyedNet}
 use Rattle.standard_map.specs.MapNumbers.{HaveOtherKeys, StandardTable}
 use Rattle.net_certificate.specs.{Answers.shape_of, Answers.TellsGraphs, Items.ItemView, Items.Without, Laws.AnswersTellGraphs}
-use Rattle.net_certificate.specs.NetItems.{AreItemsOf, AreToldApart, IsItemOf, images_in, item_by}
+use Rattle.net_certificate.specs.NetItems.{AreItemsOf, AreToldApart, images_in, item_by}
 use Rattle.net_certificate.specs.declared.answer.MapAnswer.{MapAnswer}
 use Rattle.net_certificate.specs.declared.answer.MapAnswer.TheVariants.{Different, Found, LongMap, WideMap}
 use Rattle.net_certificate.specs.declared.item.NoMap.TheVariants as why

@@ -1,5 +1,5 @@
 -- What is due to `same` is one; the nets of blocks that are accepted.
-use Rattle.std.proofs.Common.{◌≡◌, ℕ, ◌≤◌, List, [], ◌∷◌, sym, subst, ◌∙◌, arith, ◌+◌, length, true, Option, Some, refl, true≢false, ◌&&◌, ◌-◌, false, ap}
+use Rattle.std.proofs.Common.{◌≡◌, ℕ, ◌≤◌, List, [], ◌∷◌, sym, subst, ◌∙◌, arith, ◌+◌, length, true, Option, refl, true≢false, ◌&&◌, ◌-◌, false, ap}
 use Rattle.std.{proofs.lemmas.Bool.and_parts, proofs.lemmas.List.Elements.All-head, proofs.lemmas.List.Elements.All-tail}
 use Rattle.std.{specs.List.list_all, specs.Prelude.All}
 use Rattle.periodic_net.specs.{Graph.Graph, Limits.IsSmall, Limits.most_vertices}

@@ -1,9 +1,8 @@
 -- Of `check_text`: what it ensures; what `check_items` requires. `begun` says where the lines stand after the first graph.
-use Rattle.std.proofs.Common.{Option, None, [], refl, sym, subst}
-use Rattle.std.specs.Prelude.{MatchOption}
-use Rattle.quotient_graph.specs.{AnyGraphs.graph_view, declared.any_graph.AnyGraph.AnyGraph}
-use Rattle.line_text.{specs.Lines.IsAt, specs.Faults.IfBadLine, proofs.CallerLemmas.handed_on, proofs.CallerLemmas.result_from}
-use Rattle.net_certificate.specs.Reading.{IsBegun, HasNoGraph, HasBadLine}
+use Rattle.std.proofs.Common.{None, [], refl}
+use Rattle.quotient_graph.specs.{AnyGraphs.graph_view}
+use Rattle.line_text.{specs.Faults.IfBadLine, proofs.CallerLemmas.handed_on, proofs.CallerLemmas.result_from}
+use Rattle.net_certificate.specs.Reading.{IsBegun, HasBadLine}
 use Rattle.net_certificate.specs.Stages.{Titled, Listed, drawing_of}
 use Rattle.net_certificate.{specs.Texts.most_bytes, specs.Checks.AreAll, specs.Checks.IsChecked, proofs.checking.check_text.Goals.In-Some}
 use Rattle.net_certificate.proofs.Places.{at_begin, left_few, none_begun, some_begun}

@@ -1,11 +1,10 @@
 -- Of `read`: the clauses `read` and `every`; what `read_items` requires. `begun` says where the lines stand after the first graph.
-use Rattle.std.proofs.Common.{◌≡◌, ℕ, List, Option, None, Some, [], refl, sym, subst}
-use Rattle.std.specs.Prelude.{MatchOption}
-use Rattle.quotient_graph.specs.{AnyGraphs.graph_view, declared.any_graph.AnyGraph.AnyGraph}
-use Rattle.line_text.{specs.Lines.IsAt, specs.Faults.IfBadLine, specs.declared.faults.RowFault.RowFault, proofs.CallerLemmas.bad_line_from}
+use Rattle.std.proofs.Common.{◌≡◌, ℕ, List, Option, None, Some, [], refl}
+use Rattle.quotient_graph.specs.{AnyGraphs.graph_view}
+use Rattle.line_text.{specs.Faults.IfBadLine, specs.declared.faults.RowFault.RowFault, proofs.CallerLemmas.bad_line_from}
 use Rattle.line_text.{proofs.CallerLemmas.handed_on}
 use Rattle.net_certificate.specs.Items.{Maps, item_views, maps_in}
-use Rattle.net_certificate.specs.Reading.{IsBegun, IsTextOf, HasNoGraph, HasBadLine}
+use Rattle.net_certificate.specs.Reading.{IsBegun, IsTextOf, HasBadLine}
 use Rattle.net_certificate.specs.Stages.{Titled, Listed, drawing_of}
 use Rattle.net_certificate.proofs.WholeTexts.{text_said, one_text, no_fault}
 use Rattle.net_certificate.proofs.Places.{at_begin, left_few, none_begun, some_begun}
