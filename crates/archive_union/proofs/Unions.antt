@@ -1,5 +1,5 @@
 -- The entries of an archive with those of items: a union has all that it is made of.
-use Rattle.std.proofs.Common.{◌≡◌, ◌⊎◌, inl, inr, suc, Bool, true, false, cond, List, [], ◌∷◌, map, filter, sym, ap, ◌∙◌, refl, arith, ◌++◌, ℕ, ℤ, subst}
+use Rattle.std.proofs.Common.{◌≡◌, ◌⊎◌, inl, inr, suc, Bool, true, false, cond, List, [], ◌∷◌, map, filter, sym, ap, ◌∙◌, refl, arith, ◌++◌, ℕ, subst}
 use Rattle.std.proofs.lemmas.List.Elements.{Contains-append_left, Contains-append_right, Contains-append_cases}
 use Rattle.std.{proofs.lemmas.Bool.false≢true, proofs.lemmas.Map.Views.Contains-from_any, proofs.lemmas.Slice.Eq.bytes_eq-Decides}
 use Rattle.std.{proofs.lemmas.List.Sorted.IsPermutation-sym, proofs.lemmas.List.Sorted.Contains-permutation, specs.List.Contains, specs.List.All}
