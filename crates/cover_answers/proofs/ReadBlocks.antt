@@ -16,7 +16,8 @@ use Rattle.quotient_graph.specs.Stars.{IsInOrder}
 use Rattle.cgd_read.specs.Spelling.{is_forward, spelled, edge_of}
 use Rattle.cgd_read.specs.Edges.{with_new, vertices_of, vertex_number, row_edge, edges_of, same_edge}
 use Rattle.cgd_read.specs.Lines.{FieldsView, LineView, line_of, line_with, name_of_fields, is_bare, kind_of, token_lines}
-use Rattle.cgd_read.specs.Blocks.{blocks_from, block_by, block_of, graph_block, or_fault, malformed, with_body}
+use Rattle.cgd_read.specs.Units.{or_fault}
+use Rattle.cgd_read.specs.Blocks.{blocks_from, block_by, block_of, graph_block, malformed, with_body}
 use Rattle.cgd_read.specs.Faults.{is_end, is_name, is_long_name, name_after, name_of, rows_in, fault_of, table}
 use Rattle.cgd_read.specs.Views.{BlockView, BodyView, Net, Other, RawView}
 use Rattle.cgd_read.{specs.Graphs.graph_of, specs.Graphs.net_of, specs.declared.edge.RawEdge.RawEdge, specs.declared.line.LineKind.LineKind}
@@ -314,8 +315,8 @@ graph_fit opening (line ∷ lines) earlier h named = by (fault_of earlier line) 
   where
     by : (fault : Option BlockFaultKind) (ends : Bool) → fault_of earlier line ≡ fault
         → (fault_of earlier line ≡ None → IsFit (graph_block opening (line ∷ earlier) lines))
-        → IsFit (or_fault fault line.number opening earlier (cond ends (with_body opening earlier (Net (net_of (rows_in earlier))))
-        (graph_block opening (line ∷ earlier) lines)))
+        → IsFit (or_fault fault (λ kind. with_body opening earlier (malformed line.number kind))
+        (cond ends (with_body opening earlier (Net (net_of (rows_in earlier)))) (graph_block opening (line ∷ earlier) lines)))
     by (Some kind) ends is on = λ raw e. absurd (no_net (malformed line.number kind) raw e (λ n. n))
     by None true is on = λ raw e. record { name = named; rows = rows_in earlier; is = sym (net_inside (net_of (rows_in earlier)) raw e) }
     by None false is on = on is
