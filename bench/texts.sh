@@ -122,12 +122,26 @@ cubic_map() {
     }'
 }
 
-# a text of n blocks of some 1,000 bytes, each one vertex with 88 loops: some 700,000 frames
+# a text of n blocks of some 1,000 bytes, each one vertex with 88 loops: 4.8 million frames
 stars() {
     awk -v n="$1" 'BEGIN {
         for (k = 0; k < n; k++) {
             print "PERIODIC_GRAPH"; print "NAME s" k; print "EDGES"
             for (i = 0; i < 88; i++) { v = 1 + (i + k) % 124; print 1, 1, int(v / 25), int(v / 5) % 5, v % 5 }
+            print "END"
+        }
+    }'
+}
+
+# the same, where no three loops are a basis: the least scale of a frame is 2
+scaled_stars() {
+    awk -v n="$1" 'BEGIN {
+        for (k = 0; k < n; k++) {
+            print "PERIODIC_GRAPH"; print "NAME t" k; print "EDGES"; print "1 1 3 0 0"; print "1 1 2 0 0"
+            for (i = 0; i < 86; i++) {
+                place = 6 * int((i + 3 * k) / 3 / 2 + 0.5)
+                print 1, 1, (int((i + 3 * k) / 3) % 2 ? -place : place), (i % 3 > 0), (i % 3 != 1)
+            }
             print "END"
         }
     }'
