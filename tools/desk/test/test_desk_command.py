@@ -8,6 +8,7 @@ import time
 from collections.abc import Callable, Iterator
 from contextlib import contextmanager
 from pathlib import Path
+from unittest import mock
 
 from desk import DESK, Server, form_of, need_desk
 from testing import PROGRAM, FolderTest, run
@@ -136,6 +137,12 @@ class End(FolderTest):
             server.process.kill()
             server.wait()
         self.assertEqual(left_of(children), set())
+
+    def test_an_interrupt_is_kept_as_the_fork_server_begins(self):
+        from crystal_nets.desk.worker import Workers
+        with mock.patch("multiprocessing.forkserver.ensure_running", lambda: os.kill(os.getpid(), signal.SIGINT)):
+            with self.assertRaises(KeyboardInterrupt):
+                Workers().start()
 
     def test_ended_at_once(self):
         for wait in (0, 0.05, 0.2, 0.5):

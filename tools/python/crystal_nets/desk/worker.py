@@ -18,7 +18,7 @@ import time
 from collections.abc import Callable, Iterator
 from contextlib import contextmanager, suppress
 from dataclasses import dataclass, field
-from multiprocessing import connection, forkserver
+from multiprocessing import connection, forkserver, resource_tracker
 from multiprocessing.connection import Connection
 from pathlib import Path
 from typing import Any
@@ -73,16 +73,17 @@ class Workers:
     def start(self) -> None:
         """Starts the fork server, which loads what all workers share. Ctrl-C does not reach it, nor its workers."""
         self._context.set_forkserver_preload([f"{__package__}.warm"])
-        before = signal.signal(signal.SIGINT, signal.SIG_IGN)
+        resource_tracker.ensure_running()  # it unblocks the signals that it blocks
+        before = signal.pthread_sigmask(signal.SIG_BLOCK, {signal.SIGINT})  # what comes meanwhile comes after it
         settings = {"PYTHONPATH": str(PACKAGES), "OPENBLAS_NUM_THREADS": "1", "PYTHONDONTWRITEBYTECODE": "1"}
         kept = {name: os.environ.get(name) for name in settings}
         os.environ.update(settings)
         try:
             forkserver.ensure_running()
         finally:
-            signal.signal(signal.SIGINT, before)
             for name, value in kept.items():
                 os.environ.pop(name) if value is None else os.environ.update({name: value})
+            signal.pthread_sigmask(signal.SIG_SETMASK, before)
 
     def ask(self, question: Callable[..., Any], *arguments: Any, client: socket.socket | None = None) -> bytes:
         """The answer to a question, as JSON. NoAnswer says why there is none; ClientGone ends the work, where the
