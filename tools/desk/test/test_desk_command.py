@@ -4,9 +4,11 @@ import os
 import signal
 import socket
 import subprocess
+import threading
 import time
 from collections.abc import Callable, Iterator
 from contextlib import contextmanager
+from functools import partial
 from pathlib import Path
 from unittest import mock
 
@@ -140,9 +142,11 @@ class End(FolderTest):
 
     def test_an_interrupt_is_kept_as_the_fork_server_begins(self):
         from crystal_nets.desk.worker import Workers
-        with mock.patch("multiprocessing.forkserver.ensure_running", lambda: os.kill(os.getpid(), signal.SIGINT)):
-            with self.assertRaises(KeyboardInterrupt):
-                Workers().start()
+        before = signal.signal(signal.SIGINT, signal.default_int_handler)
+        self.addCleanup(signal.signal, signal.SIGINT, before)
+        interrupt = partial(signal.pthread_kill, threading.get_ident(), signal.SIGINT)
+        with mock.patch("multiprocessing.forkserver.ensure_running", interrupt), self.assertRaises(KeyboardInterrupt):
+            Workers().start()
 
     def test_ended_at_once(self):
         for wait in (0, 0.05, 0.2, 0.5):
