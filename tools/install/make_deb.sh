@@ -36,6 +36,9 @@ kilobytes_below() {
 
 root=$(mktemp -d)
 trap 'rm -rf -- "$root"' EXIT
+trap 'exit 129' HUP # the shell removes the folder by no signal of its own
+trap 'exit 130' INT
+trap 'exit 143' TERM
 chmod 755 "$root"
 DESTDIR=$root "$here/install.sh" /usr "$program" >/dev/null
 rm -f -- "$root"/usr/share/net_tool/archives/rcsr*.archive  # what its owner made is not ours to give

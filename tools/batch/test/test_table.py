@@ -133,6 +133,7 @@ class Table(FolderTest):
         self.assertTrue(row["doubts"] and row["left_out"], row)
 
     def test_a_folder_with_packed_files_and_those_of_other_programs(self):
+        need_modules("ase")
         source = self.source = self.folder / "all"
         source.mkdir()
         text = BLOCKS[:BLOCKS.index(b"END") + 4]

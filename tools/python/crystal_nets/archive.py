@@ -205,11 +205,13 @@ def _checked_entries(path: Path) -> list[tuple[str, str, Net]]:
 
 
 def _check(content: bytes, path: Path) -> None:
-    """Has the program read the very bytes that were read here."""
-    with tempfile.NamedTemporaryFile(suffix=".archive") as copy:
+    """Has the program read the very bytes that were read here. They have no name, so that nothing is left of them where
+    this process is ended."""
+    with tempfile.TemporaryFile() as copy:
         copy.write(content)
         copy.flush()
-        status, told = run("duplicates", b"", "--archive", copy.name, allowed=(0, BAD_ARCHIVE))
+        number = copy.fileno()
+        status, told = run("duplicates", b"", "--archive", f"/dev/fd/{number}", allowed=(0, BAD_ARCHIVE), files=(number,))
     if status == BAD_ARCHIVE:
         raise NotAnArchive(f"{path}: {told.splitlines()[0].decode(errors='replace')}")
     if not told.startswith(b"entries "):

@@ -3,6 +3,7 @@
 from __future__ import annotations
 
 import os
+import signal
 import sys
 from collections.abc import Callable
 from importlib import import_module
@@ -18,6 +19,7 @@ PACKAGES = {"cif2cgd": "python3-gemmi python3-numpy python3-scipy",
             "cgd2net": "python3-gemmi python3-numpy python3-scipy python3-spglib",
             "make_archives": "python3-gemmi python3-numpy python3-scipy python3-spglib", "draw_nets": "python3-numpy",
             "net_gallery": "python3-numpy"}
+FAILED = {"net_table": 3, "make_archives": 3}  # the status where nothing can be done; 1 of all others
 WITH_SMALL_MATRICES = ("cif2cgd", "net_table")  # for which threads would wait for each other
 INTERRUPTED = 130  # the status that a shell gives a command that Ctrl-C ends
 
@@ -34,8 +36,11 @@ def main() -> NoReturn:
 
 
 def run(name: str) -> NoReturn:
-    """Runs a command with the words of the command line, and ends with its status: 1 with a reason in one line, where
-    a text has not the form that is asked for, or a file cannot be read or written."""
+    """Runs a command with the words of the command line, and ends with its status. It is that of FAILED, with a
+    reason in one line, where a text has not the form that is asked for, a file cannot be read or written, or memory is
+    refused. Ctrl-C ends it at once."""
+    if signal.getsignal(signal.SIGINT) == signal.default_int_handler:
+        signal.signal(signal.SIGINT, signal.SIG_DFL)
     if name in WITH_SMALL_MATRICES:
         os.environ.setdefault("OPENBLAS_NUM_THREADS", "1")
     from .errors import CrystalNetsError, in_words
@@ -49,9 +54,19 @@ def run(name: str) -> NoReturn:
             status = ended.code
         sys.stdout.flush()
         sys.exit(status)
-    except (NoReport, CrystalNetsError, OSError) as fault:
+    except Exception as fault:
         give_up_output()
-        sys.exit(f"{name}: {in_words(fault)}")
+        is_known = isinstance(fault, (NoReport, CrystalNetsError, OSError))
+        print(f"{name}: {in_words(fault) if is_known else _told(fault)}", file=sys.stderr)
+        sys.exit(FAILED.get(name, 1))
+
+
+def _told(fault: Exception) -> str:
+    """In one line what no command expects: that memory was refused, or a fault of its own."""
+    from .errors import in_one_line
+    if isinstance(fault, MemoryError):
+        return "there is not enough memory"
+    return in_one_line(f"it failed: {type(fault).__name__} {fault}")
 
 
 def _main_of(name: str) -> Callable[[], int]:

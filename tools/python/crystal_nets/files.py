@@ -1,10 +1,13 @@
-"""Files: their paths, files that are written whole or not at all, and files whose faults name them."""
+"""Files: their paths, those of folders, files that are written whole or not at all, and files whose faults name them."""
 
 from __future__ import annotations
 
+import contextlib
+import fcntl
 import io
 import os
 import sys
+from collections.abc import Callable, Iterator
 from pathlib import Path
 from typing import TYPE_CHECKING
 
@@ -23,18 +26,77 @@ def checked_path(path: str | os.PathLike[str], fault: type[CrystalNetsError]) ->
     return Path(path)
 
 
+def walked(top: str | os.PathLike[str], fault: Callable[[OSError], object]) -> Iterator[tuple[str, list[str]]]:
+    """A folder and all below it, each before those in it, with the names of its files; both are in the order of their
+    names. Links to folders are followed, but for one that leads back to a folder on its own way. Of a folder that cannot
+    be read the fault is told, and what is in it is not given."""
+    waiting: list[tuple[str, frozenset[tuple[int, int]]]] = [(os.fspath(top), frozenset())]
+    while waiting:
+        folder, above = waiting.pop()
+        try:
+            status = os.stat(folder)
+            here = status.st_dev, status.st_ino
+            if here in above:
+                continue
+            with os.scandir(folder) as entries:
+                kinds = {entry.name: _is_folder(entry) for entry in entries}
+        except OSError as reason:
+            fault(reason)
+            continue
+        yield folder, sorted(name for name, is_folder in kinds.items() if not is_folder)
+        inner = sorted((name for name, is_folder in kinds.items() if is_folder), reverse=True)
+        waiting += [(os.path.join(folder, name), above | {here}) for name in inner]
+
+
+def _is_folder(entry: os.DirEntry[str]) -> bool:
+    """Whether it is a folder or a link to one; a link that leads nowhere is none."""
+    try:
+        return entry.is_dir()
+    except OSError:
+        return False
+
+
 def write_whole(path: Path, content: bytes) -> None:
-    """Writes a file beside its place, and moves it there once it is whole."""
+    """Writes a file beside its place, and moves it there once it is whole. Where it cannot be written, nothing is left
+    of it. Of several that write it at the same time each writes alone."""
     part = path.with_name(f"{path.name}.part")
-    part.write_bytes(content)
-    part.replace(path)
+    with _alone_on(part) as file:
+        try:
+            file.truncate(0)
+            file.write(content)
+            file.flush()
+            part.replace(path)
+        except BaseException:
+            part.unlink(missing_ok=True)
+            raise
+
+
+@contextlib.contextmanager
+def _alone_on(path: Path) -> Iterator[io.BufferedWriter]:
+    """A file that no other process writes meanwhile, where its file system knows locks. One that was moved away while
+    its lock was waited for is opened anew."""
+    while True:
+        with io.BufferedWriter(TellingFile(os.fspath(path), str(path), "a")) as file:
+            with contextlib.suppress(OSError):
+                fcntl.flock(file, fcntl.LOCK_EX)
+            if _is_at(file, path):
+                yield file
+                return
+
+
+def _is_at(file: io.BufferedWriter, path: Path) -> bool:
+    """Whether an open file is the one that stands at a path."""
+    try:
+        return os.path.samestat(os.fstat(file.fileno()), os.stat(path))
+    except FileNotFoundError:
+        return False
 
 
 class TellingFile(io.FileIO):
     """A file that is written to, whose name a fault of writing has, as that of a full disk."""
 
-    def __init__(self, file: str | int, told: str) -> None:
-        super().__init__(file, "w", closefd=not isinstance(file, int))
+    def __init__(self, file: str | int, told: str, mode: str = "w") -> None:
+        super().__init__(file, mode, closefd=not isinstance(file, int))
         self.told = told
 
     def write(self, content: ReadableBuffer, /) -> int:
@@ -51,7 +113,8 @@ def telling_text(path: str) -> io.TextIOWrapper:
 
 def open_standard_files() -> None:
     """Puts something in the place of a standard file that is closed, so that no other file gets its number, and has
-    standard output named by its faults. Reading what was closed, or writing to it, fails."""
+    standard output named by its faults. Names of files go there as the bytes that they are. Reading what was closed, or
+    writing to it, fails."""
     for number, mode in ((0, os.O_WRONLY), (1, os.O_RDONLY), (2, os.O_WRONLY)):
         try:
             os.fstat(number)
@@ -59,9 +122,8 @@ def open_standard_files() -> None:
             os.dup2(os.open(os.devnull, mode), number)
     sys.stdin = sys.stdin or open(0, closefd=False)
     sys.stderr = sys.stderr or open(2, "w", closefd=False)
-    known = sys.stdout
     sys.stdout = io.TextIOWrapper(io.BufferedWriter(TellingFile(1, STANDARD_OUTPUT)), encoding="utf-8",
-                                  errors=known.errors if known else "strict", line_buffering=os.isatty(1))
+                                  errors="surrogateescape", line_buffering=os.isatty(1))
 
 
 def give_up_output() -> None:

@@ -51,5 +51,7 @@ def structure_of_fields(fields: Mapping[str, Any]) -> Any:
         raise PackageMissing(f"a structure of pymatgen: {lacking(missing, 'apt-get install python3-pymatgen')}") from missing
     try:
         return Structure.from_dict(dict(fields))
+    except MemoryError:
+        raise
     except Exception as fault:  # of pymatgen, as with a site without an element
         raise NotANet(f"no structure of pymatgen: {type(fault).__name__} {fault}"[:300]) from None

@@ -6,7 +6,7 @@ import os
 import shutil
 import subprocess
 import time
-from collections.abc import Callable, Iterable, Iterator, Sequence
+from collections.abc import Callable, Collection, Iterable, Iterator, Sequence
 from concurrent.futures import ThreadPoolExecutor
 from contextlib import contextmanager
 from contextvars import ContextVar, copy_context
@@ -17,6 +17,7 @@ from typing import ParamSpec, TypeVar
 
 from .errors import CrystalNetsError, ProgramFailed, ProgramNotFound, ProgramTimedOut
 from .net import Net
+from .side_by_side import first_of_program
 from .texts.net_text import MOST_BLOCKS, MOST_BYTES, NoReport
 
 Result = TypeVar("Result")
@@ -99,14 +100,17 @@ def find_program() -> str:
     return found
 
 
-def run(command: str, text: bytes = b"", *words: str, allowed: Iterable[int] = (0, 1)) -> tuple[int, bytes]:
+def run(command: str, text: bytes = b"", *words: str, allowed: Iterable[int] = (0, 1),
+        files: Collection[int] = ()) -> tuple[int, bytes]:
     """The status and the report of a command on a text, which it reads from standard input. ProgramFailed where the
-    status is none of the allowed ones: then there is no report; ProgramTimedOut where the time of `within` is over."""
+    status is none of the allowed ones: then there is no report; ProgramTimedOut where the time of `within` is over.
+
+    files  the numbers of open files that the words name as /dev/fd/NUMBER"""
     program, limit = find_program(), LIMIT.get()
     left = limit.left() if limit else None
     try:
         done = subprocess.run([program, command, *words], input=text, stdout=subprocess.PIPE, stderr=subprocess.DEVNULL,
-                              timeout=left)
+                              timeout=left, preexec_fn=first_of_program(), pass_fds=files)
     except subprocess.TimeoutExpired:
         assert limit
         raise ProgramTimedOut(limit.seconds) from None

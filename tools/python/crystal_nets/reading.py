@@ -238,6 +238,8 @@ def _net_of_block(chunk: Chunk, lines: list[bytes]) -> Net:
         net = net_of_block(block, notes)
     except Refused as reason:
         return Net.refused(f"line {reason.line or chunk.opening_line}: {reason.reason}", name, notes)
+    except MemoryError:
+        raise
     except Exception as fault:  # of the reader, or of a library: the next block may still be read
         return Net.refused(f"line {chunk.opening_line}: {type(fault).__name__} {fault}", name, notes)
     return net.named(name).noted(after=notes_of(notes))
@@ -350,6 +352,8 @@ def _nets_of_crystal(make: Callable[[], Crystal], name: str, options: Options) -
         nets = nets_of_crystal(crystal, options, notes)
     except Refused as reason:
         return [Net.refused(str(reason), name, notes)]
+    except MemoryError:
+        raise
     except Exception as fault:  # of the reader, or of a library, as with places that are no numbers
         return [Net.refused(f"{type(fault).__name__} {fault}", name)]
     return [_as_written(net).noted(before=[*crystal.notes, *notes]) for net in nets]

@@ -9,14 +9,18 @@ import os
 import signal
 from collections.abc import Callable, Iterator, Sequence
 from concurrent.futures import ProcessPoolExecutor
+from functools import partial
+from threading import Event
 from typing import TypeVar
 
 from .progress import Progress
 
 Item = TypeVar("Item")
 Result = TypeVar("Result")
+LIBRARY = ctypes.CDLL(None)  # the C library, found before a process is forked
 PARENT_ENDED = 1  # of prctl: the signal that a process gets where its parent ends
 FEWEST = 8  # items for which more than one process is started
+_are_bound = Event()
 
 
 def processors() -> int:
@@ -27,8 +31,24 @@ def processors() -> int:
 def end_with_parent(parent: int) -> None:
     """Has this process end where its parent does, so that no run that was killed leaves one behind."""
     signal.signal(signal.SIGINT, signal.SIG_DFL)
-    with contextlib.suppress(OSError, AttributeError):
-        ctypes.CDLL(None).prctl(PARENT_ENDED, signal.SIGKILL)
+    _bind(parent)
+    bind_programs()
+
+
+def bind_programs() -> None:
+    """Has each program that this process starts from now on end where this one does, by whatever signal. It is for
+    commands, which are small: a process is forked for it, and that takes long where much memory is in use."""
+    _are_bound.set()
+
+
+def first_of_program() -> Callable[[], None] | None:
+    """What a program does first, as `preexec_fn`. A thread that starts one has to wait for it."""
+    return partial(_bind, os.getpid()) if _are_bound.is_set() else None
+
+
+def _bind(parent: int) -> None:
+    with contextlib.suppress(AttributeError):
+        LIBRARY.prctl(PARENT_ENDED, signal.SIGKILL)
     if os.getppid() != parent:
         os._exit(1)
 

@@ -24,9 +24,9 @@ from typing import NoReturn
 from ..files import write_whole
 from ..program import find_program
 from ..reading import name_of_block
-from ..side_by_side import end_with_parent
+from ..side_by_side import bind_programs, first_of_program
 from ..texts.net_text import Chunk, NetReport, NoReport, chunks_as_read, nets_of_report
-from ..texts.row_text import COMMANDS, FIELDS, row_of
+from ..texts.row_text import COMMANDS, FIELDS, number_of_row, row_of
 
 from .net_rows import names_of
 from .pieces import INDEX, IndexRow, index_of, sum_of_piece
@@ -90,11 +90,17 @@ class Question:
         name = re.sub(r"[^A-Za-z0-9._\n-]", "_", os.fsencode(archive.absolute().name).decode("latin-1"))
         return cls(command, archive, seconds, f"{name} {told}")
 
-    def is_answered(self, rows: bytes, count: int) -> bool:
-        """Whether rows are all of this question; one of a net that was stopped sooner is not."""
-        fields = [row.split(b"\t") for row in rows.splitlines()]
-        return len(fields) == count and all(
-            len(row) == len(FIELDS) and row[COMMAND] == self.command.encode() and row[ARCHIVE] == self.named.encode()
+    def is_answered(self, rows: bytes, piece: IndexRow) -> bool:
+        """Whether rows are those of all nets of a piece, whole, and all of this question; one of a net that was stopped
+        sooner is not."""
+        lines = rows.splitlines(keepends=True)
+        try:
+            numbers = [number_of_row(line) for line in lines]
+        except NoReport:
+            return False
+        fields = [line[:-1].split(b"\t") for line in lines]
+        return numbers == list(range(piece.blocks_before + 1, piece.blocks_before + piece.blocks + 1)) and all(
+            row[COMMAND] == self.command.encode() and row[ARCHIVE] == self.named.encode()
             and not self._is_too_soon(row[OUTCOME]) for row in fields)
 
     def _is_too_soon(self, outcome: bytes) -> bool:
@@ -126,7 +132,7 @@ class Question:
             text.seek(0)
             done = subprocess.run([find_program(), self.command, "-", *(["--archive", str(self.archive)] if is_one else [])],
                                   stdin=text, stdout=subprocess.PIPE, timeout=self.seconds,
-                                  preexec_fn=lambda: end_with_parent(PARENT))
+                                  preexec_fn=first_of_program())
         if done.returncode not in REPORTS:
             status = done.returncode if done.returncode > 0 else 128 - done.returncode
             fail(status, f"{piece}: net_tool ended with {status}: {done.stdout[:200].decode(errors='replace')}")
@@ -166,12 +172,10 @@ def end(number: int, _: FrameType | None) -> NoReturn:
     sys.exit(128 + number)
 
 
-PARENT = os.getpid()
-
-
 def main() -> int:
     for number in (signal.SIGHUP, signal.SIGINT, signal.SIGTERM):
         signal.signal(number, end)
+    bind_programs()
     asked = words()
     question = Question.of(asked.command, asked.archive, asked.seconds)
     index = asked.folder / INDEX
@@ -184,9 +188,9 @@ def main() -> int:
     piece = asked.folder / row.piece
     rows = piece.with_name(piece.name + ".rows")
     if rows.exists():
-        if question.is_answered(rows.read_bytes(), row.blocks):
+        if question.is_answered(rows.read_bytes(), row):
             return 0
-        print(f"key_piece: {rows} is of another command, archive or program, and is made anew", file=sys.stderr)
+        print(f"key_piece: {rows} is of another command, archive or program, or is cut, and is made anew", file=sys.stderr)
     try:
         write_whole(rows, rows_of_piece(question, piece, row))
     except NoReport as fault:

@@ -51,6 +51,8 @@ def names_of(path: str | None) -> Callable[[bytes], list[bytes]]:
     if path is None:
         return lambda key: []
     from ..archive import Archive  # here, since rows without names need it never
+    from ..side_by_side import bind_programs
+    bind_programs()
     archive = Archive.load(path)
     return lambda key: [name.encode(errors="surrogateescape") for name in archive.names(key.decode())]
 

@@ -166,18 +166,21 @@ def written(folder: Path, name: str, group: list[Cut], blocks_before: int) -> In
     text = b"".join(cut.text for cut in group)
     places = [cut.line for cut in group if cut.line]
     lines = "".join(f"{place}\n" for place in places).encode() if any(cut.is_made for cut in group) else b""
-    (folder / name).write_bytes(text)
+    write_whole(folder / name, text)
     if lines:
-        (folder / name).with_suffix(".lines").write_bytes(lines)
+        write_whole((folder / name).with_suffix(".lines"), lines)
+    else:
+        (folder / name).with_suffix(".lines").unlink(missing_ok=True)  # of a run that broke off
     return IndexRow(name, blocks_before, group[0].before, len(places), sum_of_piece(text, lines))
 
 
 def main() -> int:
     asked = words()
     index = asked.folder / INDEX
-    if index.exists():
-        print(f"split_nets: {index} is there already; take another folder", file=sys.stderr)
-        return 1
+    for path in (index, *asked.folder.glob("p*.rows")):  # rows would be taken for those of the new pieces
+        if path.exists():
+            print(f"split_nets: {path} is there already; take another folder", file=sys.stderr)
+            return 1
     too_long, blocks_before, ending = False, 0, "cgd"
     rows: list[IndexRow] = []
     reader = Reader(asked.file)

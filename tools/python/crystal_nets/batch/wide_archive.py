@@ -12,6 +12,7 @@ from pathlib import Path
 from ..asking import keys
 from ..net import Net
 from ..reading import read
+from ..side_by_side import bind_programs
 from ..wide.archive import write_wide_archive
 from ..wide.naming import is_asked
 
@@ -25,6 +26,7 @@ def main() -> int:
     parser.add_argument("stem", metavar="NAME", type=Path, help="the path of the archive without .cgd")
     parser.add_argument("files", nargs="+", metavar="FILE", help="files of nets")
     asked = parser.parse_args()
+    bind_programs()
     nets, left_out = chosen([net for file in asked.files for net in read(Path(file))])
     left_out += write_wide_archive(asked.stem, nets)
     for name, reason in left_out:

@@ -21,6 +21,7 @@ from ..files import write_whole
 from ..net import Net
 from ..program import find_program
 from ..provenance import DROPPED, REFUSED
+from ..side_by_side import bind_programs, first_of_program
 from ..texts.graph_text import plain
 from ..texts.net_text import MOST_BLOCKS, MOST_BYTES, NetReport, NoReport, nets_of_report
 from ..wide.archive import write_wide_archive
@@ -88,7 +89,8 @@ class Collector(Converter):
 
 def run(program: str, command: str, text: bytes) -> tuple[int, bytes]:
     """The status and the report of a command on a text."""
-    done = subprocess.run([program, command, "-"], input=text, stdout=subprocess.PIPE)
+    done = subprocess.run([program, command, "-"], input=text, stdout=subprocess.PIPE,
+                          preexec_fn=first_of_program())
     if done.returncode not in (0, 1, 9):
         raise Failed(f"{program} {command} ended with {done.returncode}: {decoded(done.stdout[:200]).strip()}")
     return done.returncode, done.stdout
@@ -222,6 +224,7 @@ def main() -> int:
     parser.add_argument("stem", metavar="NAME", type=Path, help="the path of the archive without .archive")
     parser.add_argument("files", nargs="+", metavar="FILE", help="a .cgd or .arc file")
     asked = parser.parse_args()
+    bind_programs()
     try:
         return make_archives(asked.stem, asked.files)
     except (Failed, OSError) as reason:

@@ -7,7 +7,7 @@ from dataclasses import dataclass, field, replace
 from pathlib import Path
 from typing import Any
 
-from ..errors import NotANet
+from ..errors import NotANet, PackageMissing
 from ..net import Net
 from ..provenance import DOUBT, LEFT_OUT, OTHER, REFUSED, Note
 from ..reading import unpacked
@@ -76,16 +76,25 @@ def convert(source: Source, content: bytes, options: Options) -> Conversion:
         return done
     for structure in structures:
         block = structure.block if len(structures) > 1 else ""
-        convert_structure(structure, f"{source.label} {block}".rstrip(), options, done)
+        what = f"{source.label} {block}".rstrip()
+        try:
+            convert_structure(structure, what, options, done)
+        except MemoryError:
+            done.refuse(what, "there is not enough memory")
+        except PackageMissing as reason:
+            done.refuse(what, reason)
     return done
 
 
 def convert_structure(structure: Structure, what: str, options: Options, done: Conversion) -> None:
-    """Adds the nets of one structure, or why it gives none."""
+    """Adds the nets of one structure, or why it gives none. A lack of memory, or of a package, is no fault of it, and is
+    raised."""
     try:
         _add_nets(structure, what, options, done)
     except Refused as reason:
         done.refuse(what, reason)
+    except (MemoryError, PackageMissing):
+        raise
     except Exception as fault:  # of cif2cgd itself, or of a library: the next file may still be read
         done.refuse(what, f"cif2cgd failed: {type(fault).__name__} {fault}")
 

@@ -7,6 +7,7 @@ from collections import Counter
 from collections.abc import Iterable, Iterator
 from pathlib import Path, PurePath
 
+from ..files import walked
 from .conversion import Source
 
 SUFFIXES = (".cif", ".mcif", ".mmcif", ".vasp", ".poscar", ".contcar", ".xyz", ".extxyz")  # of the files of a folder
@@ -14,14 +15,16 @@ WITHOUT_SUFFIX = ("poscar", "contcar")
 
 
 def files_of(arguments: Iterable[str]) -> Iterator[str]:
-    """The files themselves, and of folders all structure files in them and below, by their names."""
+    """The files themselves, and of folders all structure files in them and below, by their names. A folder that cannot
+    be read stands among them, since it is told as a file that cannot be read."""
     for argument in arguments:
         if argument == "-" or not os.path.isdir(argument):
             yield argument
             continue
-        for folder, folders, names in os.walk(argument, followlinks=True):
-            folders.sort()
-            yield from (os.path.join(folder, name) for name in sorted(names) if is_structure(name))
+        away: list[OSError] = []
+        for folder, names in walked(argument, away.append):
+            yield from (os.path.join(folder, name) for name in names if is_structure(name))
+        yield from (os.fsdecode(fault.filename) for fault in away)
 
 
 def is_structure(name: str) -> bool:

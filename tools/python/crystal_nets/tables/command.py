@@ -22,7 +22,7 @@ from ..progress import Progress
 from ..errors import CrystalNetsError, ProgramFailed, in_words
 from ..files import write_whole
 from ..options import CHOICES
-from ..side_by_side import end_with_parent, processors
+from ..side_by_side import bind_programs, end_with_parent, processors
 from .join import FILES, join
 from .parquet import need_pyarrow, write_parquet
 from .piece import make_rows, path_of, rows_of
@@ -196,8 +196,10 @@ def alone(work: Path) -> Iterator[None]:
     with open(work / "lock", "w") as lock:
         try:
             fcntl.flock(lock, fcntl.LOCK_EX | fcntl.LOCK_NB)
-        except OSError:
+        except BlockingIOError:
             raise Failed(f"another net_table is at work in {work.parent}") from None
+        except OSError as fault:  # the file system knows no locks
+            raise Failed(f"{lock.name} cannot be locked: {fault.strerror}") from None
         yield
 
 
@@ -236,6 +238,7 @@ def main() -> int:
     signal.signal(signal.SIGINT, signal.SIG_DFL)
     gc.set_threshold(200_000)
     asked = words()
+    bind_programs()
     try:
         return make_table(asked)
     except ProgramFailed as fault:

@@ -222,12 +222,12 @@ def _asked(work: Callable[[Source, Item], Result], item: Item) -> Result:
 
 def join(folder: Path, work: Path, plan: Plan, archive: Archive | None, jobs: int = 1, maps: bool = False) -> Counts:
     """Writes the four files from the rows of all pieces, and with `maps` the certificates. Each file comes to its place once
-    all are whole."""
-    if maps:
-        (folder / "maps").mkdir(exist_ok=True)
-        for old in (folder / "maps").glob("*.maps"):
-            old.unlink()
-    source, counts = Source(work, plan, archive, folder / "maps" if maps else None), Counts()
+    all are whole; what the folder has beside them of another table goes then."""
+    new_maps = work / "maps" if maps else None
+    if new_maps:
+        shutil.rmtree(new_maps, ignore_errors=True)  # of a run that broke off
+        new_maps.mkdir()
+    source, counts = Source(work, plan, archive, new_maps), Counts()
     workers = Workers(source, jobs)
     stretches = _counted(workers, len(plan.pieces), counts)
     for _ in workers.each(Source.sort_keys, stretches):
@@ -236,9 +236,29 @@ def join(folder: Path, work: Path, plan: Plan, archive: Archive | None, jobs: in
     counts.named = sum(workers.each(Source.write_rows, _tasks(stretches, counts)))
     for name in WRITTEN_BY_PARTS:
         _put_together(folder / f"{name}.part", line_of(head_of(name, plan)), [stretch.part(work, name) for stretch in stretches])
+    _let_others_go(folder)
     for name in FILES:
         (folder / f"{name}.part").replace(folder / name)
+    if new_maps:
+        _take_maps(new_maps, folder / "maps")
     return counts
+
+
+def _let_others_go(folder: Path) -> None:
+    """Takes away what was written beside another table: its files as Parquet, and its maps."""
+    for name in FILES:
+        (folder / name).with_suffix(".parquet").unlink(missing_ok=True)
+    for old in (folder / "maps").glob("*.maps"):
+        old.unlink()
+    with contextlib.suppress(OSError):  # it is not there, or has other files
+        (folder / "maps").rmdir()
+
+
+def _take_maps(made: Path, place: Path) -> None:
+    place.mkdir(exist_ok=True)
+    for file in sorted(made.iterdir()):
+        file.replace(place / file.name)
+    made.rmdir()
 
 
 def _counted(workers: Workers, pieces: int, counts: Counts) -> list[Stretch]:

@@ -5,13 +5,15 @@ from __future__ import annotations
 import hashlib
 import json
 import os
+import stat
 from collections.abc import Iterator
 from dataclasses import dataclass, field
 from functools import cached_property
 from pathlib import Path
-from typing import Any, NamedTuple
+from typing import Any, NamedTuple, NoReturn
 
 from ..errors import in_words
+from ..files import walked
 from ..reading import GZIP, holds_structure, is_known
 from ..texts.net_text import chunks_of
 
@@ -150,23 +152,29 @@ def sum_of(content: bytes) -> str:
 
 def files_of(source: Path, at: str = "") -> list[Path]:
     """The file, or all files of a folder and below whose endings are known, by their names. The source is given from
-    a folder, and so are the files."""
+    a folder, and so are the files. OSError where a folder cannot be read."""
     top = Path(at, source)
     if not top.is_dir():
         return [source]
     found = []
-    for folder, folders, names in os.walk(top, followlinks=True):
-        folders.sort()
+    for folder, names in walked(top, _raise):
         inner = source / Path(folder).relative_to(top)
-        found += [inner / name for name in sorted(names) if is_known(name)]
+        found += [inner / name for name in names if is_known(name)]
     return found
 
 
+def _raise(fault: OSError) -> NoReturn:
+    raise fault
+
+
 def state_of(files: list[Path], at: str = "") -> str:
-    """16 digits that are others where a file was added, taken away or changed."""
+    """16 digits that are others where a file was added, taken away or changed. Failed where one is a pipe or a device,
+    which is not read twice."""
     told = hashlib.sha256()
     for file in files:
         status = Path(at, file).stat()
+        if not stat.S_ISREG(status.st_mode):
+            raise Failed(f"{file} is no file, but a pipe or a device")
         told.update(f"{file}\0{status.st_size}\0{status.st_mtime_ns}\n".encode(errors="surrogateescape"))
     return told.hexdigest()[:16]
 

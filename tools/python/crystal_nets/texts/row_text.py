@@ -65,10 +65,25 @@ def rows_of(lines: Iterable[bytes], file: str) -> Iterator[Row]:
         number, name, outcome, dimension, key, command = found.groups()
         if command not in (b"", *WITH_KEYS):
             raise NoReport(f"{file}: line {count} is a row of {command.decode()}, which gives no keys")
-        try:
-            is_right = (outcome == b"accepted") == bool(key) and (not key or b"%d" % key_numbers(key)[0] == dimension)
-        except ValueError:
-            is_right = False
-        if not is_right:
+        if not _is_key(key, dimension, outcome):
             raise NoReport(f"{file}: the key in line {count} is cut, or is none")
         yield Row(int(number), name, key, outcome)
+
+
+def number_of_row(line: bytes) -> int:
+    """The number of the net of a row of any command. NoReport where it is no row, or is cut."""
+    found = ROW.fullmatch(line)
+    if found is None:
+        raise NoReport(f"{line[:60]!r} is no row of net_rows, or is cut")
+    number, _, outcome, dimension, key, command = found.groups()
+    if command in WITH_KEYS and not _is_key(key, dimension, outcome):
+        raise NoReport(f"the key of {line[:60]!r} is cut, or is none")
+    return int(number)
+
+
+def _is_key(key: bytes, dimension: bytes, outcome: bytes) -> bool:
+    """Whether it is the key of an accepted net of this dimension, or that of another net, which has none."""
+    try:
+        return (outcome == b"accepted") == bool(key) and (not key or b"%d" % key_numbers(key)[0] == dimension)
+    except ValueError:
+        return False

@@ -220,6 +220,8 @@ def _named(crystal: Crystal, group: list[Piece], k: int, options: Options) -> li
             if not is_auto:
                 raise Refused(f"{convention.name} does not apply: {reason}") from reason
             unfit.setdefault(str(reason), []).append(convention.name)
+        except MemoryError:
+            raise
         except Exception as fault:  # of one convention: the others may still apply
             if not is_auto:
                 raise

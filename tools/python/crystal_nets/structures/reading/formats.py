@@ -12,7 +12,7 @@ from io import StringIO
 from pathlib import PurePath
 from typing import Any
 
-from ...errors import lacking
+from ...errors import PackageMissing, lacking
 from ...other_forms import is_poscar
 from ...provenance import OTHER, Note
 from ...reading import CIF_SUFFIXES
@@ -56,12 +56,15 @@ def _crystal_by_ase(content: bytes, format_of_ase: str, name: str, notes: list[N
     try:
         from ase.io import read
     except ModuleNotFoundError as missing:
-        raise Refused(f"a file {format_of_ase} is read by ase: {lacking(missing, 'apt-get install python3-ase')}") from None
+        advice = lacking(missing, "apt-get install python3-ase")
+        raise PackageMissing(f"a file {format_of_ase} is read by ase: {advice}") from None
     try:
         frames: list[Any] = read(StringIO(text_of_file(content)), index=":", format=format_of_ase)
         atoms = frames[-1]
         cell, places = bounded_cell(atoms.cell.array, atoms.get_positions(), atoms.pbc)
         symbols = atoms.get_chemical_symbols()
+    except MemoryError:
+        raise
     except Exception as fault:  # of ase, in many kinds
         raise Refused(f"no {format_of_ase} file that ase reads: {type(fault).__name__} {fault}") from None
     if len(frames) > 1:
