@@ -147,6 +147,19 @@ scaled_stars() {
     }'
 }
 
+# the same with 90 loops, of which many lie in a plane with two others: the least scale of a frame is 6
+wide_stars() {
+    awk -v n="$1" 'BEGIN {
+        for (k = 0; k < n; k++) {
+            print "PERIODIC_GRAPH"; print "NAME w" k; print "EDGES"
+            print "1 1 6 0 0"; print "1 1 10 0 0"; print "1 1 15 0 0"
+            for (x = 0; x < 4; x++) for (y = -2; y < 3; y++) for (z = -2; z < 3; z++)
+                if (x > 0 || y > 0 || (y == 0 && z > 0)) print 1, 1, 30 * x, y, z
+            print "END"
+        }
+    }'
+}
+
 # one block of 46 parts, each such a vertex
 parted_stars() {
     awk -v n="$1" 'BEGIN {
