@@ -17,7 +17,7 @@ from ..atoms.places import images_of, name_apart, take_once
 from ...refusal import Refused
 from ..atoms.sanity import check_metric, judge, keeps_metric
 from .sites import number_of, read_bonds, read_sites
-from .symmetry import Symmetry, both_origins, named_symmetry, read_symmetry, text_of
+from .symmetry import Symmetry, both_origins, doubt_of_symmetry, named_symmetry, read_symmetry, text_of
 
 LONGEST_EDGE = 1000.0  # angstrom, of a unit cell
 MOST_ATOMS = 20_000    # of a primitive cell
@@ -55,6 +55,7 @@ def read_crystal(block: Block) -> Crystal:
     if crystal.shortage:
         crystal.misfit = ""
         crystal.noted_doubt(crystal.shortage)
+    crystal.noted_doubt(doubt_of_symmetry(block.cif, cell, symmetry))
     return crystal.noted_doubt(expected.doubt_of(_in_cell(crystal, cell)))
 
 
