@@ -92,5 +92,43 @@ class Tags(unittest.TestCase):
             self.assertNotIn("another group", told(read(symmetry)))
 
 
+class Settings(unittest.TestCase):
+    ATOMS = """loop_
+_atom_site_label
+_atom_site_fract_x
+_atom_site_fract_y
+_atom_site_fract_z
+Si1 0 0 0
+Si2 0.5 0.5 0.5
+"""
+
+    def told(self, symmetry: str, **cell: object) -> str:
+        """What is told of two atoms in a cell of these lengths and angles, and 90 degrees elsewhere."""
+        values = {"length_a": 5.0, "length_b": 5.2, "length_c": 5.4, "angle_alpha": 90, "angle_beta": 90, "angle_gamma": 90}
+        tags = "".join(f"_cell_{tag} {value}\n" for tag, value in (values | cell).items() if value is not None)
+        content = f"data_x\n{tags}{symmetry}{self.ATOMS}".encode()
+        return told(convert(Source("x.cif", "x.cif", "x"), content, Options()))
+
+    def test_a_number_leaves_the_setting_open(self):
+        doubt = "the setting is in doubt: "
+        self.assertIn(doubt + "number P 1 21/c 1 is taken, and P 1 21/n 1 fits too",
+                      self.told("_space_group_IT_number 14\n", angle_beta=105))
+        self.assertIn(doubt + "number P n m a is taken", self.told("_space_group_IT_number 62\n"))
+        for symmetry in ("_space_group_IT_number 221\n", "_space_group_IT_number 227\n"):
+            self.assertNotIn(doubt, self.told(symmetry, length_b=5.0, length_c=5.0))
+        for symmetry in ("_space_group_name_H-M_alt 'P n m a'\n_space_group_IT_number 62\n", "_space_group_IT_number 1\n",
+                         "_space_group_name_Hall '-P 2ac 2n'\n_space_group_IT_number 62\n"):
+            self.assertNotIn(doubt, self.told(symmetry))
+
+    def test_angles_that_are_absent_are_a_doubt_where_they_are_open(self):
+        for value in (None, "?", "."):
+            for number, tags in ((10, "beta"), (2, "alpha and beta and gamma"), (47, "")):
+                cell = {"angle_alpha": value, "angle_beta": value, "angle_gamma": value}
+                lines = self.told(f"_space_group_IT_number {number}\n", **cell)
+                self.assertEqual(f"no value of {tags} is given: 90 degrees are taken" in lines, bool(tags), lines)
+                self.assertEqual("no value of" in lines, bool(tags))
+        self.assertNotIn("no value of", self.told("_space_group_IT_number 10\n", angle_alpha=None, angle_gamma="?"))
+
+
 if __name__ == "__main__":
     unittest.main()

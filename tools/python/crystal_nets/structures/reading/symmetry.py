@@ -15,7 +15,7 @@ from ...lattice import staircase
 from ...refusal import Refused
 from .document import is_magnetic
 from .names import group_of_name
-from .sites import NO_VALUE
+from .sites import NO_VALUE, text_of
 
 OPERATION_TAGS = ("_space_group_symop_operation_xyz", "_symmetry_equiv_pos_as_xyz")
 HALL_TAGS = ("_space_group_name_Hall", "_symmetry_space_group_name_Hall")
@@ -23,6 +23,7 @@ NAME_TAGS = ("_space_group_name_H-M_alt", "_symmetry_space_group_name_H-M", "_sp
              "_space_group_name_H-M", "_symmetry_space_group_name_H-M_alt", "_space_group_name_H-M_ref")
 NUMBER_TAGS = ("_space_group_IT_number", "_symmetry_Int_Tables_number")
 OTHER_TAGS = ("_space_group_name_Schoenflies", "_space_group_crystal_system", "_symmetry_cell_setting")  # not read
+TRICLINIC = 2  # the last number of a group whose other settings nobody takes
 NOT_GIVEN = "no symmetry given: P 1"
 DECIMAL = re.compile(r"\d*\.\d+")
 OF_FRACTION = 0.001     # between a decimal of an operation and the fraction that it means
@@ -41,16 +42,6 @@ class Symmetry:
     order: int = 1            # of the group, with the translations within the cell
     number: int = 0           # of the type of the group; 0 where it is in no setting of the table
     setting: str = ""         # the name that the table has for these operations; empty where it has none
-
-
-def text_of(block: gemmi.cif.Block, tags: tuple[str, ...]) -> str:
-    """The first value that one of the tags has, without quotes; or an empty text."""
-    for tag in tags:
-        for value in block.find_values(tag):
-            text = gemmi.cif.as_string(value).strip()
-            if text not in NO_VALUE:
-                return text
-    return ""
 
 
 def read_symmetry(block: gemmi.cif.Block, cell: gemmi.UnitCell) -> Symmetry:
@@ -116,6 +107,15 @@ def _named_symmetries(block: gemmi.cif.Block, cell: gemmi.UnitCell) -> Iterator[
         named = group_of_name(text, cell) if text else None
         if named:
             yield _symmetry(named.group.operations(), f"{what} {named.group.xhm()}", named.is_origin_given)
+
+
+def other_settings(taken: Symmetry) -> list[Symmetry]:
+    """The settings of a group that is given by its number alone, but the one that is taken and those with another origin."""
+    if not taken.source.startswith("number") or taken.number <= TRICLINIC:
+        return []
+    own = taken.setting.partition(":")[0]
+    return [_symmetry(group.operations(), group.xhm()) for group in gemmi.spacegroup_table()
+            if group.number == taken.number and group.hm != own]
 
 
 def both_origins(block: gemmi.cif.Block, cell: gemmi.UnitCell) -> list[Symmetry]:
