@@ -7,7 +7,7 @@ from testing import TOOLS, FolderTest, need_modules, run
 need_modules("gemmi", "numpy", "scipy")
 from crystal_nets.blocks.converter import Converter  # noqa: E402
 from crystal_nets.graph import QuotientGraph  # noqa: E402
-from crystal_nets.provenance import DROPPED, REFUSED  # noqa: E402
+from crystal_nets.provenance import DOUBT, DROPPED, REFUSED  # noqa: E402
 from crystal_nets.reading import nets_of_cgd  # noqa: E402
 
 COMMAND = TOOLS / "cgd2net/cgd2net"
@@ -124,3 +124,17 @@ class Operations(FolderTest):
         for site, operation in (("3/8, 3/8, 3/8", "1-x, 1-y, 1-z"), ("3/8 3/8 3/8", "1 - x , 1 - y , 1 - z"),
                                 ("4 3/8, 3/8 ,3/8", "1-x,1-y, 1-z")):
             self.assertEqual(graph_of(NET.format(site, operation)).edges, wanted)
+
+
+class Doubts(FolderTest):
+    def test_a_node_that_is_taken_once_is_told_in_any_case(self):
+        text = CRYSTAL.format(name="", node="B").replace("END", "C 8 1.5 .5 .5\nEND")
+        told = run(COMMAND, "--quiet", "-", stdin=text.encode()).stderr.decode()
+        self.assertEqual(told, 'stdin: line 1 "": line 7: the node C is where B is, and is taken once\n')
+
+    def test_edges_by_distance_that_may_be_others_are_doubts(self):
+        text = "CRYSTAL\nNAME x\nCELL 1 1 1.05 90 90 90\nNODE 1 4 0 0 0\nEND\n"
+        self.assertEqual([kind for kind, _ in told_of(text)], [DOUBT, DOUBT])
+        rough = "CRYSTAL\nNAME x\nGROUP p6mm\nCELL 1.732 1.732 120\nNODE 1 3 .325 .675\nEND\n"
+        (kind, line), = told_of(rough)
+        self.assertEqual((kind, "places are matched within 10.0%" in line), (DOUBT, True))

@@ -4,8 +4,9 @@ which has a line for each: its name, how many blocks and lines stand before it i
 blocks it has, and a sum of its bytes. Blocks that the program reads stay as they are. Of others, as
 CRYSTAL, of key lines and of structures the nets are written, as cgd2net and cif2cgd make them, and
 p00001.lines has the lines where the blocks of p00001.cgd begin in FILE. A block that gives no net
-stays as it is, so that it is counted and reported, and the reason is told. FILE may be packed by gzip. With
---as-it-is nothing is turned: the pieces joined are FILE, byte for byte, and those of key lines are p00001.arc and so on."""
+stays as it is, so that it is counted and reported, and the reason is told. So are doubts, and what
+is left out of a net. FILE may be packed by gzip. With --as-it-is nothing is turned: the pieces
+joined are FILE, byte for byte, and those of key lines are p00001.arc and so on."""
 
 from __future__ import annotations
 
@@ -24,13 +25,14 @@ from typing import cast
 from ..errors import NotANet
 from ..files import write_whole
 from ..net import Net
-from ..provenance import DROPPED
+from ..provenance import DOUBT, DROPPED, LEFT_OUT
 from ..reading import GZIP, holds_structure, is_plain, net_of_chunk, nets_of_cif
 from ..texts.net_text import (HEADER, ITEM_WORDS, MOST_BLOCKS, MOST_BYTES, OTHER_TEXTS, Chunk, NoReport, chunks_as_read,
                               chunks_of, first_word)
 
 from .pieces import INDEX, IndexRow, sum_of_piece
 
+TOLD = (DOUBT, DROPPED, LEFT_OUT)  # the kinds of notes on nets; `cif2cgd` and `cgd2net` tell the others too
 BEGINNING = 65_536  # bytes by which a structure without its ending is told
 
 
@@ -117,7 +119,7 @@ class Reader:
 
     def _tell(self, net: Net, place: str) -> None:
         self.failed += bool(net.refusal)
-        told = [net.refusal] * bool(net.refusal) + [note.text for note in net.provenance.notes if note.kind == DROPPED]
+        told = [net.refusal] * bool(net.refusal) + [note.text for note in net.provenance.notes if note.kind in TOLD]
         for text in told:
             print(f"split_nets: {self.file}: {place}: {text}".encode(errors="replace").decode(), file=sys.stderr)
 
