@@ -50,6 +50,10 @@ class Keys(FolderTest):
             self.assertIn("a key is one line", nets_of_cgd(broken)[0].refusal)
             self.assertIn(b"a key is one line", run(COMMAND, "--quiet", "-", stdin=broken.encode(), status=1).stderr)
 
+    def test_a_block_in_an_item_without_its_end_is_told(self):
+        block = GRAPH.format("A", "B", "C", name="")
+        self.assertIn("line 5: PERIODIC_GRAPH begins before the end of this item", reason_of(TRIANGLES.replace("end\n", block)))
+
     def test_lines_of_other_words_are_told(self):
         self.assertEqual(told_of(TRIANGLES), [])
         text = TRIANGLES.replace("end", "  family \"4^4\"\nend")

@@ -10,6 +10,7 @@ from ..texts.net_text import BESIDE_ITEMS, GREATEST_SHIFT, MOST_EDGES, MOST_VERT
 
 from .made_net import net_made
 from .periodic_graph import WHOLE
+from .sections import OPENERS
 from .tokens import Token, number_of, shown, tokens_of
 
 LONGEST_NUMBER = 20
@@ -34,6 +35,8 @@ def net_of_item(lines: list[tuple[int, str]], notes: list[str | Note]) -> Net:
             name = (number, " ".join(token.text for token in tokens[1:]))
             if not name[1]:
                 raise Refused("an id line without a name", number)
+        elif word in OPENERS:
+            raise Refused(f"{tokens[0].text} begins before the end of this item", number)
         elif tokens and word not in BESIDE:
             if number_of(tokens[0].text) is not None:
                 raise Refused("numbers begin a line: a key is one line", number)

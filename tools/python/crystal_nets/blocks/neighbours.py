@@ -15,7 +15,7 @@ from .crystal import CrystalBlock, Node
 from .orbits import Orbits
 
 EQUAL = 1.001        # times as far is equally far: coordinates have four or five digits
-DOUBT = 1.1          # a next neighbour that is not so many times as far is told
+DOUBTFUL = 1.1       # a next neighbour that is not so many times as far is told
 GROWTH = 1.4         # of the reach, until it has enough neighbours
 MOST_IMAGES = 400_000
 
@@ -61,7 +61,7 @@ def _doubts(nodes: list[Node], candidates: list[Candidate], farthest: list[float
     """Notes on the nodes with a vertex a little farther than their farthest neighbour."""
     for k, node in enumerate(nodes):
         beyond = [c.length / farthest[k] for c in candidates if c.node == k and c.length > farthest[k] * EQUAL > 0]
-        if beyond and min(beyond) < DOUBT:
+        if beyond and min(beyond) < DOUBTFUL:
             yield Note(DOUBT, f"edges are by distance, and of the node {node.name} a vertex that is not joined is "
                        f"{min(beyond):.3f} times as far as one that is")
 
