@@ -1,5 +1,6 @@
 """Rows that a reader may lose: names and ends that are vertices, keys in several lines, labels that would become one."""
 
+import gzip
 import io
 
 from testing import TOOLS, FolderTest, need_modules, run
@@ -142,3 +143,18 @@ class Doubts(FolderTest):
         rough = "CRYSTAL\nNAME x\nGROUP p6mm\nCELL 1.732 1.732 120\nNODE 1 3 .325 .675\nEND\n"
         (kind, line), = told_of(rough)
         self.assertEqual((kind, "places are matched within 10.0%" in line), (DOUBT, True))
+
+
+class Packed(FolderTest):
+    def test_a_file_that_is_packed_by_gzip(self):
+        text = CRYSTAL.format(name="", node="B").encode()
+        packed = gzip.compress(text)
+        file = self.folder / "x.cgd.gz"
+        file.write_bytes(packed)
+        wanted = run(COMMAND, "-", stdin=text).stdout
+        self.assertEqual(run(COMMAND, file).stdout, wanted)
+        self.assertEqual(run(COMMAND, "-", stdin=packed).stdout, wanted)
+        file.write_bytes(packed[:-9])
+        self.assertIn(b"is packed by gzip, and damaged", run(COMMAND, file, status=1).stderr)
+        told = run(TOOLS / "cgd2net/make_archives", self.folder / "nets", file, status=3).stderr
+        self.assertIn(b"is packed by gzip, and damaged", told)

@@ -12,7 +12,8 @@ from pathlib import Path
 from typing import Any, NamedTuple
 
 from ..errors import in_words
-from ..reading import GZIP, holds_structure, is_known
+from ..files import GZIP
+from ..reading import holds_structure, is_known
 from ..texts.net_text import chunks_of
 
 FORM = "net_table 5"
