@@ -129,7 +129,8 @@ class Pieces(FolderTest):
         cell = "".join(f"_cell_length_{axis} 6.9\n" for axis in "abc")
         atoms = "loop_\n_atom_site_label\n_atom_site_fract_x\n_atom_site_fract_y\n_atom_site_fract_z\n"
         file = self.folder / "silicon.cif"
-        file.write_text(f"data_x\n{cell}_space_group_name_H-M_alt 'F d -3 m:2'\n{atoms}Si1 .125 .125 .125\nSi2 ? ? ?\n")
+        group = "_space_group_name_H-M_alt 'F d -3 m:2'\n"
+        file.write_text(f"data_x\n{cell}{group}{atoms}Si1 .125 .125 .125\nSi2 ? ? ?\n")
         done = self.tool("name_nets", file, TOP / "archives/common.archive")
         self.assertEqual([line.partition('"silicon": ')[2] for line in done.stderr.decode().splitlines()], [
             "left out, without a place or not occupied: Si2", "bonds in doubt: Si-Si 2.99 taken, longer than a bond"])

@@ -1,4 +1,4 @@
-"""Rows that a reader may lose: names and ends that are vertices, keys in several lines, labels that would become one."""
+"""Rows that a reader may lose: vertices called Id or End, keys in several lines, labels that would become one."""
 
 import gzip
 import io
@@ -53,7 +53,8 @@ class Keys(FolderTest):
 
     def test_a_block_in_an_item_without_its_end_is_told(self):
         block = GRAPH.format("A", "B", "C", name="")
-        self.assertIn("line 5: PERIODIC_GRAPH begins before the end of this item", reason_of(TRIANGLES.replace("end\n", block)))
+        self.assertIn("line 5: PERIODIC_GRAPH begins before the end of this item",
+                      reason_of(TRIANGLES.replace("end\n", block)))
 
     def test_lines_of_other_words_are_told(self):
         self.assertEqual(told_of(TRIANGLES), [])
@@ -65,7 +66,8 @@ class Keys(FolderTest):
 class Ends(FolderTest):
     def test_a_row_that_ends_the_block_is_refused(self):
         for word in ("End", "END"):
-            self.assertIn("line 6: a row begins with END", reason_of(CRYSTAL.format(name="", node=word).rpartition("END")[0]))
+            nodes = CRYSTAL.format(name="", node=word).rpartition("END")[0]
+            self.assertIn("line 6: a row begins with END", reason_of(nodes))
             rows = GRAPH.format("A", "B", "A", name="").replace("A B 0 1 0", f"{word} B 0 1 0")
             self.assertIn("line 5: a row begins with END", reason_of(rows.partition("A B 0 0 1")[0]))
         self.assertIn("a row begins with END", reason_of(TRIANGLES.replace("end", "end 1 1")))

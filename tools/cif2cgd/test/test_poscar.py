@@ -1,5 +1,5 @@
-"""POSCAR texts as VASP reads them: scales, elements, numbers of atoms, modes. Each way of writing quartz gives its net, or is
-refused."""
+"""POSCAR texts as VASP reads them: scales, elements, numbers of atoms, modes. Each way of writing quartz gives its net,
+or is refused."""
 
 import unittest
 

@@ -1,4 +1,4 @@
-"""The symmetry that a file gives: by tags and signs of all kinds, or not at all; and what is told where it is in doubt."""
+"""The symmetry that a file gives, by tags and signs of all kinds, or not at all; what is told where it is in doubt."""
 
 import unittest
 
@@ -11,7 +11,8 @@ from crystal_nets.structures.conversion import Conversion, Source, convert  # no
 from crystal_nets.structures.nets.choice import Options  # noqa: E402
 
 CELL = "".join(f"_cell_{tag} {value}\n" for tag, value in (
-    ("length_a", 5.43), ("length_b", 5.43), ("length_c", 5.43), ("angle_alpha", 90), ("angle_beta", 90), ("angle_gamma", 90)))
+    ("length_a", 5.43), ("length_b", 5.43), ("length_c", 5.43),
+    ("angle_alpha", 90), ("angle_beta", 90), ("angle_gamma", 90)))
 ATOMS = """loop_
 _atom_site_label
 _atom_site_fract_x
@@ -104,7 +105,8 @@ Si2 0.5 0.5 0.5
 
     def told(self, symmetry: str, **cell: object) -> str:
         """What is told of two atoms in a cell of these lengths and angles, and 90 degrees elsewhere."""
-        values = {"length_a": 5.0, "length_b": 5.2, "length_c": 5.4, "angle_alpha": 90, "angle_beta": 90, "angle_gamma": 90}
+        values = {"length_a": 5.0, "length_b": 5.2, "length_c": 5.4,
+                  "angle_alpha": 90, "angle_beta": 90, "angle_gamma": 90}
         tags = "".join(f"_cell_{tag} {value}\n" for tag, value in (values | cell).items() if value is not None)
         content = f"data_x\n{tags}{symmetry}{self.ATOMS}".encode()
         return told(convert(Source("x.cif", "x.cif", "x"), content, Options()))
@@ -116,7 +118,8 @@ Si2 0.5 0.5 0.5
         self.assertIn(doubt + "number P n m a is taken", self.told("_space_group_IT_number 62\n"))
         for symmetry in ("_space_group_IT_number 221\n", "_space_group_IT_number 227\n"):
             self.assertNotIn(doubt, self.told(symmetry, length_b=5.0, length_c=5.0))
-        for symmetry in ("_space_group_name_H-M_alt 'P n m a'\n_space_group_IT_number 62\n", "_space_group_IT_number 1\n",
+        for symmetry in ("_space_group_name_H-M_alt 'P n m a'\n_space_group_IT_number 62\n",
+                         "_space_group_IT_number 1\n",
                          "_space_group_name_Hall '-P 2ac 2n'\n_space_group_IT_number 62\n"):
             self.assertNotIn(doubt, self.told(symmetry))
 

@@ -38,8 +38,8 @@ def write_whole(path: Path, content: bytes) -> None:
 
 @contextmanager
 def opened_plain(file: str, as_it_is: bool = False) -> Iterator[io.BufferedReader]:
-    """The bytes of a file, or of standard input; without gzip, unless they are wanted as they are. NotANet where what is
-    packed is damaged."""
+    """The bytes of a file, or of standard input; without gzip, unless they are wanted as they are. NotANet where what
+    is packed is damaged."""
     raw = io.FileIO(0, closefd=False) if file == "-" else io.FileIO(file)
     with io.BufferedReader(raw, AHEAD) as source:
         if as_it_is or not source.peek(len(GZIP)).startswith(GZIP):

@@ -62,8 +62,8 @@ class Sections:
             self._add(line, tokens)
 
     def _open(self, keyword: str, word: str, line: int, is_row: bool) -> None:
-        """Begins the part of a keyword; one that is none opens a part that is passed over. It is given whether the line has
-        the form of a node."""
+        """Begins the part of a keyword; one that is none opens a part that is passed over. It is given whether the line
+        has the form of a node."""
         if word.upper() in OPENERS:
             raise Refused(f"{word} begins before the END of this block", line)
         if keyword == "NAME" and self.current == "NODE" and is_row:

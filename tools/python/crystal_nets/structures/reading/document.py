@@ -16,7 +16,7 @@ OF_CONCERN = re.compile(r"_(cell_(length|angle)|symmetry|space_group|atom_site|c
 # Tags with a dot, as in the dictionaries of DDLm and mmCIF: _cell.length_a is _cell_length_a.
 DOTTED = re.compile(r"(_(?<!\S_)(?:cell|symmetry|space_group|atom_site|chemical_formula)[A-Za-z_]*)\.(?=[A-Za-z])",
                     re.IGNORECASE)
-# What publishers set for a minus sign, and for a blank. As a sign of another kind it would be lost in the names of groups: P -1 is no P 1.
+# What publishers set for a minus sign, and for a blank. The names of groups have no other sign: P -1 is no P 1.
 PLAIN = dict.fromkeys(map(ord, "\u2010\u2011\u2012\u2013\u2014\u2212\ufe63\uff0d"), "-") | {0xa0: " "}
 STRANGE = re.compile(r"[^\x01-\x7f]")
 # Structures that have no space group of the usual kind, by tags that only they have.

@@ -1,5 +1,5 @@
-"""POSCAR texts of VASP, made such that ase reads what VASP does: one positive scale, elements by their symbols alone, and as
-many rows as atoms are counted."""
+"""POSCAR texts of VASP, made such that ase reads what VASP does: one positive scale, elements by their symbols alone,
+and as many rows as atoms are counted."""
 
 from __future__ import annotations
 
@@ -17,8 +17,8 @@ MODE = re.compile(r"[ \t]*([sScCkK])")
 
 
 def as_ase_reads(text: str, notes: list[Note]) -> str:
-    """The text with one positive scale and plain symbols; raises Refused where it has another form. It is told where the
-    elements stand in the comment alone."""
+    """The text with one positive scale and plain symbols; raises Refused where it has another form. It is told where
+    the elements stand in the comment alone."""
     lines = text.split("\n")
     if len(lines) < 8:
         raise Refused("no POSCAR: it ends before its atoms")
@@ -29,7 +29,8 @@ def as_ase_reads(text: str, notes: list[Note]) -> str:
     if counts_at == 6:
         lines[5] = " ".join(_symbols(lines[5], len(counts)))
     else:
-        notes.append(Note(DOUBT, f"no line has the elements, and those of the first are taken: {lines[0].strip()[:60]}"))
+        told = f"no line has the elements, and those of the first are taken: {lines[0].strip()[:60]}"
+        notes.append(Note(DOUBT, told))
     return "\n".join([*lines[:counts_at + 1], *_atoms(lines[counts_at + 1:], sum(counts))])
 
 

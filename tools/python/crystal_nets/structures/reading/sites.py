@@ -5,7 +5,7 @@ attached hydrogens, the assembly and the group of disorder."""
 from __future__ import annotations
 
 import re
-from collections.abc import Callable, Iterator
+from collections.abc import Callable, Iterable, Iterator
 from contextlib import suppress
 from itertools import product, repeat
 from math import isfinite, nan
@@ -23,8 +23,8 @@ DUMMY = "dum"      # the calculation flag of a place that has no atom
 COLUMNS = ["fract_x", "fract_y", "fract_z", "?label", "?type_symbol", "?occupancy", "?calc_flag",
            "?attached_hydrogens", "?disorder_assembly", "?disorder_group"]
 CARTESIAN_COLUMNS = ["Cartn_x", "Cartn_y", "Cartn_z", "?label_atom_id", *COLUMNS[4:]]  # of mmCIF, in angstrom
-MATRIX_TAGS = ("_atom_sites_fract_transf_{}[{}][{}]", "_atom_sites_fract_tran_{}_{}{}", "_atom_sites_fract_transf_{}_{}{}")
-VECTOR_TAGS = ("_atom_sites_fract_transf_{}[{}]", "_atom_sites_fract_tran_{}_{}", "_atom_sites_fract_transf_{}_{}")
+MATRIX_TAGS = ("_atom_sites_fract_transf_matrix[{}][{}]", "_atom_sites_fract_tran_matrix_{}{}")
+VECTOR_TAGS = ("_atom_sites_fract_transf_vector[{}]", "_atom_sites_fract_tran_vector_{}")
 MOST_STRAIN = 0.05    # of the matrix of the file from that of its cell
 MOST_OCCUPIED = 1.05  # an occupancy above it is a number of another kind, as one in percent
 NO_VALUE = ("?", ".", "")
@@ -37,14 +37,14 @@ def read_sites(block: gemmi.cif.Block, cell: gemmi.UnitCell, formula: dict[str, 
     """The sites that have a place and are occupied; notes on the others."""
     sites, dummies, absent, more = [], [], [], []
     is_cartesian = not block.find_values("_atom_site_fract_x")
-    to_fractions = _to_fractions(block, cell)
+    to_fractions = _to_fractions(block, cell) if is_cartesian else list
     for x, y, z, label, symbol, occupancy, flag, hydrogens, assembly, group in _rows(block):
         label = label or symbol
         if flag.lower() == DUMMY:
             dummies.append(label)
             continue
         place = [number_of(text, label) for text in (x, y, z)]
-        place = to_fractions(place) if is_cartesian else place
+        place = to_fractions(place)
         if any(abs(part) > FARTHEST for part in place):
             raise Refused(f"the coordinates of {label} are no fractions of the cell")
         part = number_of(occupancy, label, absent=1.0)
@@ -67,12 +67,10 @@ def read_sites(block: gemmi.cif.Block, cell: gemmi.UnitCell, formula: dict[str, 
 
 def _to_fractions(block: gemmi.cif.Block, cell: gemmi.UnitCell) -> Callable[[list[float]], list[float]]:
     """From places in angstrom to fractions of the cell, by the matrix and the vector of the file, where it has them."""
-    values = {stem: [number_of(text_of(block, tuple(form.format(stem, *at) for form in forms)), stem) for at in places]
-              for stem, forms, places in (("matrix", MATRIX_TAGS, list(product("123", "123"))),
-                                          ("vector", VECTOR_TAGS, list(product("123"))))}
-    if not all(map(isfinite, values["matrix"])):
+    matrix = np.reshape(_values(block, MATRIX_TAGS, product("123", repeat=2)), (3, 3))
+    vector = np.nan_to_num(_values(block, VECTOR_TAGS, product("123", repeat=1)))
+    if not np.all(np.isfinite(matrix)):
         return lambda place: cell.fractionalize(gemmi.Position(*place)).tolist()
-    matrix, vector = np.reshape(values["matrix"], (3, 3)), np.nan_to_num(values["vector"])
     edges = np.array(cell.orthogonalization_matrix.tolist())
     if not np.allclose((matrix @ matrix.T) @ (edges.T @ edges), np.eye(3), atol=MOST_STRAIN):
         raise Refused("the matrix from places to fractions is not that of the cell")
@@ -108,6 +106,11 @@ def number_of(text: str, what: str, absent: float = nan) -> float:
     if (found := FRACTION.match(text)) and int(found[2]) > 0:
         return int(found[1]) / int(found[2])
     raise Refused(f"{text[:20]!r} of {what} is no number")
+
+
+def _values(block: gemmi.cif.Block, forms: tuple[str, ...], places: Iterable[tuple[str, ...]]) -> list[float]:
+    """The numbers that tags of one of several forms have, with the place of each in it; nan where there is none."""
+    return [number_of(text_of(block, tuple(form.format(*at) for form in forms)), forms[0]) for at in places]
 
 
 def text_of(block: gemmi.cif.Block, tags: tuple[str, ...]) -> str:

@@ -71,7 +71,8 @@ def doubt_of_symmetry(block: gemmi.cif.Block, cell: gemmi.UnitCell, taken: Symme
     for other in _named_symmetries(block, cell):
         is_exact = other.has_origin and not other.source.startswith("number")
         if taken.number and (other.number != taken.number or (is_exact and other.setting != taken.setting)):
-            return f"the file gives {taken.source}, which is taken, and {other.source}, which is another group or setting"
+            return (f"the file gives {taken.source}, which is taken, and {other.source}, which is another group or "
+                    "setting")
     return ""
 
 
@@ -110,7 +111,7 @@ def _named_symmetries(block: gemmi.cif.Block, cell: gemmi.UnitCell) -> Iterator[
 
 
 def other_settings(taken: Symmetry) -> list[Symmetry]:
-    """The settings of a group that is given by its number alone, but the one that is taken and those with another origin."""
+    """The settings of a group that is given by its number alone, but for the one that is taken, with both origins."""
     if not taken.source.startswith("number") or taken.number <= TRICLINIC:
         return []
     own = taken.setting.partition(":")[0]
