@@ -124,6 +124,20 @@ class Pieces(FolderTest):
         self.split(CRYSTAL.replace("END", "  WONDER 3\nEND"))
         self.assertIn("line 6: WONDER is no keyword", self.told)
 
+    def test_doubts_and_what_is_left_out_are_told_with_names(self):
+        need_modules("gemmi", "numpy", "scipy")
+        cell = "".join(f"_cell_length_{axis} 6.9\n" for axis in "abc")
+        atoms = "loop_\n_atom_site_label\n_atom_site_fract_x\n_atom_site_fract_y\n_atom_site_fract_z\n"
+        file = self.folder / "silicon.cif"
+        group = "_space_group_name_H-M_alt 'F d -3 m:2'\n"
+        file.write_text(f"data_x\n{cell}{group}{atoms}Si1 .125 .125 .125\nSi2 ? ? ?\n")
+        done = self.tool("name_nets", file, TOP / "archives/common.archive")
+        self.assertEqual([line.partition('"silicon": ')[2] for line in done.stderr.decode().splitlines()], [
+            "left out, without a place or not occupied: Si2", "bonds in doubt: Si-Si 2.99 taken, longer than a bond"])
+        file.write_text(CRYSTAL.replace("END", "  NODE W 4 1 0\nEND"))
+        self.assertIn(b"the node W is where V is, and is taken once",
+                      self.tool("name_nets", file.rename(self.folder / "x.cgd"), TOP / "archives/common.archive").stderr)
+
     def test_names_are_loud_on_nets_without_a_key(self):
         (self.folder / "nets.cgd").write_text(CRYSTAL + WRONG)
         archive = self.folder / "my.archive"

@@ -2,6 +2,7 @@
 kinds of files, cells that are several times the primitive one."""
 
 import random
+import re
 import unittest
 from itertools import combinations
 
@@ -310,6 +311,28 @@ class Files(Reading):
         text = (f"data_iron\n{cell}loop_\n_atom_site.label_atom_id\n_atom_site.type_symbol\n_atom_site.Cartn_x\n_atom_site.Cartn_y\n"
                 "_atom_site.Cartn_z\nFe1 Fe 0 0 0\nFe2 Fe 1.433 1.433 1.433\n")
         self.assertEqual(self.convert(text)[0].count('"Fe1" "Fe2"'), 8)
+
+    def test_the_matrix_of_mmcif_gives_the_fractions(self):
+        """Silicon along other axes: x of the file is along c."""
+        cell = "".join(f"_cell.length_{axis} {length}\n" for axis, length in zip("abc", (5.43, 5.43, 8.0)))
+        atoms = ("_symmetry.space_group_name_H-M 'P 4/m m m'\nloop_\n_atom_site.label_atom_id\n_atom_site.type_symbol\n"
+                 "_atom_site.Cartn_x\n_atom_site.Cartn_y\n_atom_site.Cartn_z\nSi1 Si {}\nO1 O {}\nO2 O {}\n")
+        plain = f"data_t\n{cell}{atoms.format('0 0 0', '1.6 0 0', '0 0 1.6')}"
+        rows = {"11": (0, 0, 1 / 5.43), "22": (1 / 5.43, 0, 0), "33": (0, 1 / 8.0, 0)}
+        for form in ("_atom_sites.fract_transf_matrix[{}][{}]", "_atom_sites_fract_tran_matrix_{}{}"):
+            matrix = "".join(f"{form.format(row[0], column)} {value:.6f}\n"
+                             for row, values in rows.items() for column, value in zip("123", values))
+            turned = f"data_t\n{cell}{matrix}{atoms.format('0 0 0', '0 0 1.6', '0 1.6 0')}"
+            self.assertEqual(crystal_of(turned).listed, crystal_of(plain).listed)
+            self.assertEqual(crystal_of(turned).listed, {"Si": 1.0, "O": 6.0})
+            told = self.convert(turned.replace("0.184162", "0.284162"), status=1)[1]
+            self.assertIn("refused: the matrix from places to fractions is not that of the cell", told)
+
+    def test_occupancies_above_1_are_a_doubt(self):
+        for part, doubt in (("1.0", ""), ("1.04", ""), ("100", "test.cif: occupancies above 1, taken as full: Cu1 100\n")):
+            text = re.sub(r"(?m)^(Cu1 .*) \S+$", rf"\1 {part}", Columns.COPPER)
+            self.assertEqual([line for line in self.convert(text)[1].splitlines(keepends=True) if "occupanc" in line],
+                             [doubt] * bool(doubt))
 
     def test_operations_with_decimals_and_operations_that_stand_twice(self):
         text = presentations(structure("quartz"))["published"]

@@ -146,6 +146,12 @@ class Formats(FolderTest):
                 self.assertEqual([len(net.edges) for net in read(file)], [6])
         self.assertEqual(run(COMMAND, self.folder).stdout.count(b"PERIODIC_GRAPH"), 6)
 
+    def test_structures_before_the_last_are_told_in_any_case(self):
+        need_modules("ase")
+        file = self.folder / "two.xyz"
+        file.write_text(2 * self.EXTXYZ)
+        self.assertEqual(run(COMMAND, "--quiet", file).stderr, b"two.xyz: the last of 2 structures is read\n")
+
     def test_what_is_cut_or_no_crystal_ends_in_a_reason(self):
         need_modules("ase")
         whole = gzip.compress(self.POSCAR.encode())

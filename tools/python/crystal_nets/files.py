@@ -4,19 +4,23 @@ from __future__ import annotations
 
 import contextlib
 import fcntl
+import gzip
 import io
 import os
 import sys
+import zlib
 from collections.abc import Callable, Iterator
 from pathlib import Path
-from typing import TYPE_CHECKING
+from typing import TYPE_CHECKING, cast
 
-from .errors import CrystalNetsError
+from .errors import CrystalNetsError, NotANet
 
 if TYPE_CHECKING:
     from _typeshed import ReadableBuffer
 
 STANDARD_OUTPUT = "standard output"
+GZIP = b"\x1f\x8b"
+AHEAD = 65_536  # bytes of a file that are read ahead: by these a structure without its ending is told
 
 
 def checked_path(path: str | os.PathLike[str], fault: type[CrystalNetsError]) -> Path:
@@ -90,6 +94,22 @@ def _is_at(file: io.BufferedWriter, path: Path) -> bool:
         return os.path.samestat(os.fstat(file.fileno()), os.stat(path))
     except FileNotFoundError:
         return False
+
+
+@contextlib.contextmanager
+def opened_plain(file: str, as_it_is: bool = False) -> Iterator[io.BufferedReader]:
+    """The bytes of a file, or of standard input; without gzip, unless they are wanted as they are. NotANet where what
+    is packed is damaged."""
+    raw = io.FileIO(0, closefd=False) if file == "-" else io.FileIO(file)
+    with io.BufferedReader(raw, AHEAD) as source:
+        if as_it_is or not source.peek(len(GZIP)).startswith(GZIP):
+            yield source
+            return
+        try:
+            with gzip.GzipFile(fileobj=source) as packed:
+                yield io.BufferedReader(cast(io.RawIOBase, packed), AHEAD)
+        except (gzip.BadGzipFile, EOFError, zlib.error) as fault:
+            raise NotANet(f"{file} is packed by gzip, and damaged: {fault}") from None
 
 
 class TellingFile(io.FileIO):

@@ -15,7 +15,7 @@ from pathlib import Path, PurePath
 from typing import TYPE_CHECKING, Any, Unpack
 
 from .errors import NotANet, PackageMissing, lacking
-from .files import checked_path
+from .files import GZIP, checked_path
 from .net import TOO_LONG, Net
 from .other_forms import is_json, is_poscar, is_structure, structure_of_fields, structure_of_json
 from .options import STRUCTURE_PACKAGES, StructureOptions, check_names, checked_options
@@ -43,7 +43,6 @@ PLAIN_BLOCK = re.compile(  # line by line, from EDGES on with rows. ++ and *+ ne
     rb'(?:[ \t]*+(?:' + ROW + rb'|(?i:(?:EDGES?|BONDS?)(?:[ \t]++' + ROW + rb')?|' + HEAD_LINE + rb'))'
     + LINE_END + rb')*+)?')
 NAME_LINE = re.compile(rb'(?i)[ \t]*(?:NAME|ID)[ \t]+(?:"([^"\n]*)"|([^\s"#]+))')
-GZIP = b"\x1f\x8b"
 MOST_UNPACKED = 1 << 28  # bytes of a gzip file
 
 

@@ -172,7 +172,7 @@ class OtherForms(StructureTest):
         self.assertEqual(self.name_of(POSCAR), "pcu")
         self.assertEqual(len(read(POSCAR.encode(), leave_out="Na", lengths={"Cl-Cl": 4.1})[0].vertices), 1)
         cut, = read(POSCAR.rpartition("0 0 0")[0], name="POSCAR")
-        self.assertIn("no vasp file", cut.refusal)
+        self.assertIn("no POSCAR: 2 atoms are counted, and 0 rows are there", cut.refusal)
 
     def test_the_json_of_pymatgen(self):
         need_modules("pymatgen")

@@ -4,34 +4,30 @@ which has a line for each: its name, how many blocks and lines stand before it i
 blocks it has, and a sum of its bytes. Blocks that the program reads stay as they are. Of others, as
 CRYSTAL, of key lines and of structures the nets are written, as cgd2net and cif2cgd make them, and
 p00001.lines has the lines where the blocks of p00001.cgd begin in FILE. A block that gives no net
-stays as it is, so that it is counted and reported, and the reason is told. FILE may be packed by gzip. With
---as-it-is nothing is turned: the pieces joined are FILE, byte for byte, and those of key lines are p00001.arc and so on."""
+stays as it is, so that it is counted and reported, and the reason is told. So are doubts, and what
+is left out of a net. FILE may be packed by gzip. With --as-it-is nothing is turned: the pieces
+joined are FILE, byte for byte, and those of key lines are p00001.arc and so on."""
 
 from __future__ import annotations
 
 import argparse
-import gzip
 import io
 import os
 import sys
-import zlib
 from collections.abc import Callable, Iterable, Iterator
-from contextlib import contextmanager
 from dataclasses import dataclass
 from pathlib import Path
-from typing import cast
 
-from ..errors import NotANet
-from ..files import write_whole
+from ..files import AHEAD, opened_plain, write_whole
 from ..net import Net
-from ..provenance import DROPPED
-from ..reading import GZIP, holds_structure, is_plain, net_of_chunk, nets_of_cif
+from ..provenance import DOUBT, DROPPED, LEFT_OUT
+from ..reading import holds_structure, is_plain, net_of_chunk, nets_of_cif
 from ..texts.net_text import (HEADER, ITEM_WORDS, MOST_BLOCKS, MOST_BYTES, OTHER_TEXTS, Chunk, NoReport, chunks_as_read,
                               chunks_of, first_word)
 
 from .pieces import INDEX, IndexRow, sum_of_piece
 
-BEGINNING = 65_536  # bytes by which a structure without its ending is told
+TOLD = (DOUBT, DROPPED, LEFT_OUT)  # the kinds of notes on nets; `cif2cgd` and `cgd2net` tell the others too
 
 
 def words() -> argparse.Namespace:
@@ -81,7 +77,7 @@ class Reader:
         self.failed = 0
 
     def cuts(self, stream: io.BufferedReader, as_it_is: bool) -> Iterator[Cut]:
-        if not as_it_is and holds_structure(stream.peek(BEGINNING), self.name):
+        if not as_it_is and holds_structure(stream.peek(AHEAD), self.name):
             yield from self._of_structures(stream.read())
             return
         for chunk in self._nets_of(chunks_as_read(stream) if as_it_is else chunks_of(stream)):
@@ -117,24 +113,9 @@ class Reader:
 
     def _tell(self, net: Net, place: str) -> None:
         self.failed += bool(net.refusal)
-        told = [net.refusal] * bool(net.refusal) + [note.text for note in net.provenance.notes if note.kind == DROPPED]
+        told = [net.refusal] * bool(net.refusal) + [note.text for note in net.provenance.notes if note.kind in TOLD]
         for text in told:
             print(f"split_nets: {self.file}: {place}: {text}".encode(errors="replace").decode(), file=sys.stderr)
-
-
-@contextmanager
-def opened(file: str, as_it_is: bool) -> Iterator[io.BufferedReader]:
-    """The bytes of a file, or of standard input; without gzip, unless they are wanted as they are. NotANet where what is
-    packed is damaged."""
-    with io.BufferedReader(io.FileIO(0 if file == "-" else file), BEGINNING) as source:
-        if as_it_is or not source.peek(len(GZIP)).startswith(GZIP):
-            yield source
-            return
-        try:
-            with gzip.GzipFile(fileobj=source) as packed:
-                yield io.BufferedReader(cast(io.RawIOBase, packed), BEGINNING)
-        except (gzip.BadGzipFile, EOFError, zlib.error) as fault:
-            raise NotANet(f"{file} is packed by gzip, and damaged: {fault}") from None
 
 
 def has_words_before(chunk: Chunk) -> bool:
@@ -184,7 +165,7 @@ def main() -> int:
     too_long, blocks_before, ending = False, 0, "cgd"
     rows: list[IndexRow] = []
     reader = Reader(asked.file)
-    with opened(asked.file, asked.as_it_is) as source:
+    with opened_plain(asked.file, asked.as_it_is) as source:
         for number, group in enumerate(pieces(reader.cuts(source, asked.as_it_is), asked.blocks, asked.bytes), start=1):
             asked.folder.mkdir(parents=True, exist_ok=True)
             if asked.as_it_is and number == 1 and first_word_of(group) in ITEM_WORDS:

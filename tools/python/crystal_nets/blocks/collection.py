@@ -16,8 +16,8 @@ from dataclasses import dataclass
 from pathlib import Path
 
 from ..progress import Progress
-from ..errors import in_words
-from ..files import write_whole
+from ..errors import NotANet, in_words
+from ..files import opened_plain, write_whole
 from ..net import Net
 from ..program import find_program
 from ..provenance import DROPPED, REFUSED
@@ -102,7 +102,7 @@ def read_nets(files: list[str], refused: list[str]) -> list[ListedNet]:
     with Progress("reading", sum(os.path.getsize(file) for file in files if os.path.isfile(file)), "bytes") as bar:
         for file in files:
             collector = Collector(file, refused)
-            with open(file, "rb") as stream:
+            with opened_plain(file) as stream:
                 for line, is_rest in lines_of(stream):
                     collector.push(line, is_rest)
                     bar.step(len(line))
@@ -227,6 +227,6 @@ def main() -> int:
     bind_programs()
     try:
         return make_archives(asked.stem, asked.files)
-    except (Failed, OSError) as reason:
+    except (Failed, NotANet, OSError) as reason:
         print(f"make_archives: {in_words(reason)}", file=sys.stderr)
         return FAILED

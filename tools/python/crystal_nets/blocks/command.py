@@ -6,7 +6,8 @@ import argparse
 import signal
 import sys
 
-from ..files import STANDARD_OUTPUT
+from ..errors import NotANet
+from ..files import STANDARD_OUTPUT, opened_plain
 from ..provenance import DROPPED, REFUSED
 
 from .converter import Converter
@@ -23,7 +24,8 @@ def words() -> argparse.Namespace:
     parser = argparse.ArgumentParser(
         prog="cgd2net", description=DESCRIPTION, epilog=EPILOG, formatter_class=argparse.RawDescriptionHelpFormatter)
     parser.add_argument("files", nargs="*", metavar="FILE", default=["-"],
-                        help="a .cgd or .arc file, or - for standard input, which is read where none is given")
+                        help="a .cgd or .arc file, packed by gzip or not, or - for standard input, which is read where "
+                        "none is given")
     parser.add_argument("--quiet", action="store_true", help="tell only why a block is refused, and what of a block is passed over")
     return parser.parse_args()
 
@@ -44,12 +46,12 @@ def convert_file(file: str, is_quiet: bool) -> int:
 
     converter = Converter("stdin" if file == "-" else file, sys.stdout.buffer.write, tell)
     try:
-        if file == "-":
-            converter.convert(sys.stdin.buffer)
-        else:
-            with open(file, "rb") as stream:
-                converter.convert(stream)
+        with opened_plain(file) as stream:
+            converter.convert(stream)
         sys.stdout.flush()
+    except NotANet as fault:
+        print(fault, file=sys.stderr)
+        return SOME_REFUSED
     except OSError as error:
         if error.filename == STANDARD_OUTPUT:
             raise

@@ -7,7 +7,7 @@ from dataclasses import dataclass, field
 from typing import BinaryIO
 
 from ..net import Net
-from ..provenance import REFUSED, Note, notes_of
+from ..provenance import DROPPED, REFUSED, Note, notes_of
 from ..refusal import Refused
 from ..texts.graph_text import plain
 from ..texts.net_text import BYTE_ORDER_MARK, first_word, opens_block
@@ -16,9 +16,9 @@ from .crystal import Fields, crystal_of
 from .expansion import net_of_crystal_block
 from .key_lines import net_of_item
 from .periodic_graph import rewritten
-from .sections import sections_of
+from .sections import are_numbers, sections_of
 from .symbolic import symbolic_net
-from .tokens import decoded, shown, tokens_of
+from .tokens import decoded, number_of, shown, tokens_of
 
 MOST_LINES = 40_000
 MOST_BYTES = 1 << 22
@@ -51,13 +51,16 @@ class Block:
     @property
     def name(self) -> str:
         """The name that the block has, where it can be read."""
+        is_before_rows = True
         for _, text in self.numbered:
             try:
                 tokens = tokens_of(text)
             except Refused:
                 continue
-            if tokens and tokens[0].keyword == "NAME":
+            keyword = tokens[0].keyword if tokens else ""
+            if keyword == "NAME" and (is_before_rows or len(tokens) < 4 or not are_numbers(tokens[2:])):
                 return " ".join(token.text for token in tokens[1:])
+            is_before_rows = is_before_rows and keyword not in ("NODE", "EDGE")
         return ""
 
 
@@ -179,24 +182,40 @@ class Converter:
 
 def text_of_block(block: Block, notes: list[str | Note]) -> bytes:
     """What is written of a block; refused by the line where it gives no net."""
-    if block.kind == "PERIODIC_GRAPH":
-        return b"".join(rewritten(block.lines, notes, block.line))
-    return net_of_block(block, notes).block
+    return _lines_as_read(block, notes) if block.kind == "PERIODIC_GRAPH" else net_of_block(block, notes).block
 
 
 def net_of_block(block: Block, notes: list[str | Note]) -> Net:
     """The net of a block, with a comment that tells how it was made; of a PERIODIC_GRAPH its lines, as far as the
     program reads them."""
     if block.kind == "PERIODIC_GRAPH":
-        return Net._of(b"".join(rewritten(block.lines, notes, block.line)), "")
+        return Net._of(_lines_as_read(block, notes), "")
+    _check_end(block, notes)
     net = _net_made_of(block, notes)
     return net.commented(f"line {block.line}: {block.kind}, {plain(net.provenance.made)}")
+
+
+def _lines_as_read(block: Block, notes: list[str | Note]) -> bytes:
+    """The lines of a PERIODIC_GRAPH, as far as the program reads them."""
+    _check_end(block, notes)
+    return b"".join(rewritten(block.lines, notes, block.line))
+
+
+def _check_end(block: Block, notes: list[str | Note]) -> None:
+    """Refuses a row that ends the block, as that of a vertex END without quotes; tells of other words behind END."""
+    line, text = block.numbered[-1]
+    rest = tokens_of(text, line)[1:]
+    if any("," in token.text or number_of(token.text) is not None for token in rest):
+        raise Refused("a row begins with END, which ends the block: a vertex of this name is to stand in quotes", line)
+    if rest:
+        words = " ".join(token.text for token in rest)
+        notes.append(Note(DROPPED, f"line {line}: behind END {shown(words)} is passed over"))
 
 
 def _net_made_of(block: Block, notes: list[str | Note]) -> Net:
     numbered = block.numbered
     if block.kind == "key line":
-        return net_of_item(numbered[:-1])
+        return net_of_item(numbered[:-1], notes)
     if len(tokens_of(numbered[0][1], block.line)) > 1:
         raise Refused(f"more words than {block.kind} stand in the line that opens the block", block.line)
     fields = Fields(sections_of(numbered[1:-1]))

@@ -5,7 +5,7 @@ from __future__ import annotations
 import numpy as np
 from ..graph import QuotientGraph
 from ..net import Net
-from ..provenance import Note
+from ..provenance import DOUBT, Note
 from ..refusal import Refused
 from ..structures.nets.pieces import is_one_piece
 
@@ -31,7 +31,8 @@ def net_of_crystal_block(crystal: CrystalBlock) -> Net:
             first = first or reason
             continue
         if first:
-            notes.append(f"places are matched within {tolerance:.1%} and not {TOLERANCES[0]:.1%}, since {first.reason}")
+            text = f"places are matched within {tolerance:.1%} and not {TOLERANCES[0]:.1%}, since {first.reason}"
+            notes.append(Note(DOUBT, text))
         crystal.notes += notes
         return net
     raise first or Refused("there are no nodes")
@@ -50,7 +51,7 @@ def _net_within(tolerance: float, crystal: CrystalBlock, notes: list[str | Note]
         made = "edges by distance"
         join_nearest(crystal, orbits, notes)
         if not is_one_piece(QuotientGraph.of(places.names, orbits.edges, crystal.dimension)):
-            notes.append("edges are by distance, and the net is not connected")
+            notes.append(Note(DOUBT, "edges are by distance, and the net is not connected"))
     for node, found in zip(places.nodes, orbits.degrees()):
         if node.degree is not None and node.degree != found:
             by_edges = " by its edges" if crystal.has_edges else ""

@@ -4,18 +4,22 @@ from __future__ import annotations
 
 from ..graph import Edge, edge
 from ..net import Net
+from ..provenance import DROPPED, Note
 from ..refusal import Refused
-from ..texts.net_text import GREATEST_SHIFT, MOST_EDGES, MOST_VERTICES
+from ..texts.net_text import BESIDE_ITEMS, GREATEST_SHIFT, MOST_EDGES, MOST_VERTICES
 
 from .made_net import net_made
 from .periodic_graph import WHOLE
-from .tokens import Token, tokens_of
+from .sections import OPENERS
+from .tokens import Token, number_of, shown, tokens_of
 
 LONGEST_NUMBER = 20
+BESIDE = tuple(word.decode() for word in BESIDE_ITEMS)
 
 
-def net_of_item(lines: list[tuple[int, str]]) -> Net:
-    """The net of an item, up to its `end` line; refused by the line as `union` refuses it."""
+def net_of_item(lines: list[tuple[int, str]], notes: list[str | Note]) -> Net:
+    """The net of an item, up to its `end` line; refused by the line as `union` refuses it, and where a key goes on in
+    another line, of which `union` takes the first. A line of another word is told."""
     key: tuple[int, tuple[Token, ...]] | None = None
     name: tuple[int, str] | None = None
     for number, text in lines:
@@ -31,6 +35,12 @@ def net_of_item(lines: list[tuple[int, str]]) -> Net:
             name = (number, " ".join(token.text for token in tokens[1:]))
             if not name[1]:
                 raise Refused("an id line without a name", number)
+        elif word in OPENERS:
+            raise Refused(f"{tokens[0].text} begins before the end of this item", number)
+        elif tokens and word not in BESIDE:
+            if number_of(tokens[0].text) is not None:
+                raise Refused("numbers begin a line: a key is one line", number)
+            notes.append(Note(DROPPED, f"line {number}: {shown(tokens[0].text)[1:-1]} is passed over"))
     if key is None or name is None:
         raise Refused(f"the item has no {'id' if key else 'key'} line")
     dimension, edges = _edges(*key)

@@ -7,7 +7,7 @@ from dataclasses import dataclass
 from itertools import product
 
 import numpy as np
-from ..provenance import Note
+from ..provenance import DOUBT, Note
 from ..refusal import Refused
 from ..texts.net_text import MOST_EDGES
 
@@ -15,7 +15,7 @@ from .crystal import CrystalBlock, Node
 from .orbits import Orbits
 
 EQUAL = 1.001        # times as far is equally far: coordinates have four or five digits
-DOUBT = 1.1          # a next neighbour that is not so many times as far is told
+DOUBTFUL = 1.1       # a next neighbour that is not so many times as far is told
 GROWTH = 1.4         # of the reach, until it has enough neighbours
 MOST_IMAGES = 400_000
 
@@ -57,13 +57,13 @@ def join_nearest(crystal: CrystalBlock, orbits: Orbits, notes: list[str | Note])
     notes += _doubts(nodes, candidates, farthest)
 
 
-def _doubts(nodes: list[Node], candidates: list[Candidate], farthest: list[float]) -> Iterator[str]:
+def _doubts(nodes: list[Node], candidates: list[Candidate], farthest: list[float]) -> Iterator[Note]:
     """Notes on the nodes with a vertex a little farther than their farthest neighbour."""
     for k, node in enumerate(nodes):
         beyond = [c.length / farthest[k] for c in candidates if c.node == k and c.length > farthest[k] * EQUAL > 0]
-        if beyond and min(beyond) < DOUBT:
-            yield (f"edges are by distance, and of the node {node.name} a vertex that is not joined is "
-                   f"{min(beyond):.3f} times as far as one that is")
+        if beyond and min(beyond) < DOUBTFUL:
+            yield Note(DOUBT, f"edges are by distance, and of the node {node.name} a vertex that is not joined is "
+                       f"{min(beyond):.3f} times as far as one that is")
 
 
 def _near(orbits: Orbits, node: int, degree: int) -> list[Candidate]:

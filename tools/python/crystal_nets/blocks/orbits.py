@@ -4,6 +4,7 @@ from __future__ import annotations
 
 import numpy as np
 from ..graph import Edge, edge
+from ..provenance import DROPPED, Note
 from ..refusal import Refused
 from ..texts.net_text import MOST_EDGES, MOST_VERTICES
 
@@ -31,7 +32,7 @@ class Places:
         self.names: list[str] = []
         self.first: list[int] = []       # of each node its first vertex
         self.nodes: list[Node] = []
-        self.notes: list[str] = []
+        self.notes: list[Note] = []
         for node in nodes:
             self.add(node)
 
@@ -60,7 +61,8 @@ class Places:
         if node.degree != other.degree:
             raise Refused(f"the node {shown(node.name)} is where {shown(self.names[vertex])} is, which has another "
                           "degree", node.line)
-        self.notes.append(f"line {node.line}: the node {node.name} is where {self.names[vertex]} is, and is taken once")
+        text = f"line {node.line}: the node {node.name} is where {self.names[vertex]} is, and is taken once"
+        self.notes.append(Note(DROPPED, text))
 
     def snapped(self, node: Node) -> np.ndarray:
         """The place of a node, at the mean of its images that are within the tolerance."""

@@ -5,10 +5,12 @@ from __future__ import annotations
 
 import re
 from dataclasses import dataclass, field
+from itertools import count
 
 from ..provenance import Note
 from ..refusal import Refused
-from ..texts.graph_text import written_name
+from ..texts.graph_text import LONGEST_NAME as LONGEST_LABEL
+from ..texts.graph_text import LONGEST_STEM, UNWRITABLE, cut, plain, written_name
 
 from .sections import Part, is_sequence
 from .tokens import PASSED_OVER, TOKEN, Token, decoded, tokens_of
@@ -42,6 +44,8 @@ class _Rewriting:
         plain = [tokens for tokens in rows if _has_form(tokens) and not tokens[0].keyword]
         self.dimension = len(plain[0]) - 2 if plain else 0
         self.vertices = {token.text for tokens in plain for token in tokens[:2]}
+        self.labels = _labels([token for tokens in rows if _has_form(tokens) for token in tokens[:2]])
+        self.has_name = False
         parts: list[Part] = []
         self.result.append(self.lines[0])
         for number, (line, tokens) in enumerate(zip(self.lines[1:], read[1:]), start=self.opening_line + 1):
@@ -55,6 +59,7 @@ class _Rewriting:
         first = tokens[0] if tokens else NO_TOKEN
         keyword = "" if self._is_row(tokens) else first.keyword
         if keyword == "NAME":
+            self.has_name = True
             return _name_line(first, tokens[1:], line)
         if keyword == "EDGE":
             self.section, self.part = "EDGE", None
@@ -80,6 +85,8 @@ class _Rewriting:
         if self.section not in ("", "EDGE") or not _has_form(tokens) or len(tokens) - 2 != (self.dimension or len(tokens) - 2):
             return False
         keyword = tokens[0].keyword
+        if keyword == "NAME" and self.section == "EDGE":
+            return self.has_name or any(token.text in self.vertices for token in tokens[:2])
         if keyword in ("NAME", "EDGE", "GROUP") or "_" in keyword:
             return False
         if tokens[0].text in self.vertices or not WHOLE.fullmatch(tokens[1].text):
@@ -93,10 +100,29 @@ class _Rewriting:
             return start.encode() * is_new + line
         if QUOTED not in self.notes:
             self.notes.append(QUOTED)
-        vertices = [token.text if whole else f'"{written_name(token.text)}"' for token, whole in zip(tokens[:2], is_whole)]
+        vertices = [token.text if whole else f'"{self.labels[token.text]}"' for token, whole in zip(tokens[:2], is_whole)]
         comments = (found[0] for found in TOKEN.finditer(decoded(line)) if found[0].startswith("#"))
         row = " ".join([*vertices, *(token.text for token in tokens[2:]), next(comments, "").strip()]).rstrip()
         return f"{start}{row}\n".encode(errors="surrogateescape")
+
+
+def _labels(vertices: list[Token]) -> dict[str, str]:
+    """What is written of the vertices of a block, no two alike: each as it stands, where the program reads it so."""
+    quoted = {token.text for token in vertices if token.is_quoted}
+    taken = {token.text for token in vertices}
+    labels: dict[str, str] = {}
+    for text in dict.fromkeys(token.text for token in vertices):
+        label = text
+        if text not in quoted and not _is_written_so(text):
+            stem = cut(plain(text), LONGEST_STEM)
+            label = next(label for k in count(1) if (label := f"{stem}_{k}" if k > 1 else stem) not in taken)
+            taken.add(label)
+        labels[text] = label
+    return labels
+
+
+def _is_written_so(text: str) -> bool:
+    return len(text.encode(errors="surrogateescape")) <= LONGEST_LABEL and not UNWRITABLE.search(text)
 
 
 def _tokens(line: bytes) -> tuple[Token, ...]:

@@ -56,15 +56,18 @@ class Sections:
         first = tokens[0]
         is_opener = first.is_word and first.text.upper() in OPENERS and (self.part is None or len(tokens) == 1)
         if not self._is_row(tokens) and (first.keyword or is_opener or (first.is_word and self.part is None)):
-            self._open(first.keyword, first.text, line)
+            self._open(first.keyword, first.text, line, is_node_row(tokens, self.dimension))
             tokens = tokens[1:]
         if tokens:
             self._add(line, tokens)
 
-    def _open(self, keyword: str, word: str, line: int) -> None:
-        """Begins the part of a keyword; one that is none opens a part that is passed over."""
+    def _open(self, keyword: str, word: str, line: int, is_row: bool) -> None:
+        """Begins the part of a keyword; one that is none opens a part that is passed over. It is given whether the line
+        has the form of a node."""
         if word.upper() in OPENERS:
             raise Refused(f"{word} begins before the END of this block", line)
+        if keyword == "NAME" and self.current == "NODE" and is_row:
+            raise Refused(f"the line may be a name or a node {word}: a node of this name is to stand in quotes", line)
         self.current, self.part = keyword, None
         self.keywords.add(keyword)
         if not keyword or keyword in PASSED_OVER:
@@ -90,6 +93,8 @@ class Sections:
         if self.current == "NODE":
             if not first.keyword:  # a number that is none is told by its line, and not taken for a part
                 return len(tokens) > 2 and ("," in tokens[1].text or are_numbers(tokens[1:2]))
+            if first.keyword == "NAME" and "NAME" in self.keywords:
+                return is_node_row(tokens, self.dimension)
             return is_node_row(tokens, self.dimension) and not is_own_row(tokens, self.dimension)
         if self.current == "EDGE":
             words = edge_words(tokens)

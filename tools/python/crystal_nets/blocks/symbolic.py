@@ -61,10 +61,10 @@ def symbolic_net(fields: Fields) -> Net:
 
 def _dimension(fields: Fields) -> int:
     """2 or 3, by the first operation, or the coordinates of the first node."""
-    for row in fields.of("NODE") + fields.of("EDGE"):
-        for token in row.tokens:
-            if token.text.count(",") in (1, 2):
-                return token.text.count(",") + 1
+    for row, names in [(row, 1) for row in fields.of("NODE")] + [(row, 2) for row in fields.of("EDGE")]:
+        commas = sum(token.text.count(",") for token in row.tokens[names:])
+        if commas in (1, 2):
+            return commas + 1
     for row in fields.of("EDGE"):
         if len(row) in (4, 5):
             return len(row) - 2

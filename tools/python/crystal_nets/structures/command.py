@@ -73,7 +73,7 @@ def words() -> argparse.Namespace:
     parser.add_argument("--jobs", type=number_of_jobs, default=1, metavar="N",
                         help="read files in N processes; what is written is the same (0: one a processor)")
     parser.add_argument("--notes", metavar="FILE", help="write what is told as JSON, one line a file")
-    parser.add_argument("--quiet", action="store_true", help="tell only why a file gives no net")
+    parser.add_argument("--quiet", action="store_true", help="tell only why a file gives no net, and what of it is passed over")
     return parser.parse_args()
 
 

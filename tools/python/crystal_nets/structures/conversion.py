@@ -9,7 +9,7 @@ from typing import Any
 
 from ..errors import NotANet, PackageMissing
 from ..net import Net
-from ..provenance import DOUBT, LEFT_OUT, OTHER, REFUSED, Note
+from ..provenance import DOUBT, DROPPED, LEFT_OUT, OTHER, REFUSED, Note
 from ..reading import unpacked
 from ..refusal import Refused
 from ..texts.graph_text import plain
@@ -53,9 +53,9 @@ class Conversion:
                         for net in self.nets for line in (*_comments_of(net), ""))
 
     def told(self, refusals_alone: bool) -> list[str]:
-        """The lines for standard error."""
+        """The lines for standard error; what of a file is passed over is told in any case."""
         return [f"{what or '.'}: {'refused: ' if note.kind == REFUSED else ''}{note.text}"
-                for what, note in self.notes if note.kind == REFUSED or not refusals_alone]
+                for what, note in self.notes if note.kind in (REFUSED, DROPPED) or not refusals_alone]
 
     def json_line(self) -> str:
         """One line of JSON: the file, its nets, what is in doubt, what was left out, why it is refused."""

@@ -13,8 +13,8 @@ from pathlib import Path
 from typing import Any, NamedTuple, NoReturn
 
 from ..errors import in_words
-from ..files import walked
-from ..reading import GZIP, holds_structure, is_known
+from ..files import GZIP, walked
+from ..reading import holds_structure, is_known
 from ..texts.net_text import chunks_of
 
 FORM = "net_table 5"

@@ -1,6 +1,7 @@
 """From a file, or from atoms of another program, to a crystal.
 
 formats    kinds of files
+poscar     POSCAR texts, as ase reads them
 document   the blocks of a file, and kinds of files that are not read
 sites      the atoms as a block lists them
 names      spellings of the names of space groups

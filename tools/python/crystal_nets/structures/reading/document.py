@@ -16,6 +16,9 @@ OF_CONCERN = re.compile(r"_(cell_(length|angle)|symmetry|space_group|atom_site|c
 # Tags with a dot, as in the dictionaries of DDLm and mmCIF: _cell.length_a is _cell_length_a.
 DOTTED = re.compile(r"(_(?<!\S_)(?:cell|symmetry|space_group|atom_site|chemical_formula)[A-Za-z_]*)\.(?=[A-Za-z])",
                     re.IGNORECASE)
+# What publishers set for a minus sign, and for a blank. The names of groups have no other sign: P -1 is no P 1.
+PLAIN = dict.fromkeys(map(ord, "\u2010\u2011\u2012\u2013\u2014\u2212\ufe63\uff0d"), "-") | {0xa0: " "}
+STRANGE = re.compile(r"[^\x01-\x7f]")
 # Structures that have no space group of the usual kind, by tags that only they have.
 MAGNETIC = re.compile(r"_(space_group_symop_magn|symmetry_equiv_pos_as_xyz_magn|space_group_magn"
                       r"|space_group_symop\.magn|parent_space_group)", re.IGNORECASE)
@@ -52,12 +55,21 @@ def blocks_of(content: bytes, stem: str) -> list[Block]:
 
 
 def text_of_file(content: bytes) -> str:
-    """The text without a byte order mark, with the line ends of this system, and _ for what a CIF
-    file may not have."""
+    """The text without a byte order mark, with the line ends, minus sign and blank of this system, and ~ for what a CIF
+    file may not have: no name of a group and no operation has that."""
+    text = _decoded(content).replace("\r\n", "\n").replace("\r", "\n")
+    return STRANGE.sub("~", text.translate(PLAIN))
+
+
+def _decoded(content: bytes) -> str:
+    """The text by its byte order mark, or else as UTF-8, or else as Windows has it."""
     if content.startswith((codecs.BOM_UTF16_LE, codecs.BOM_UTF16_BE)):
-        content = content.decode("utf-16", errors="replace").encode("ascii", errors="replace")
-    plain = content.removeprefix(codecs.BOM_UTF8).replace(b"\0", b"_").replace(b"\r\n", b"\n").replace(b"\r", b"\n")
-    return plain.decode("ascii", errors="replace").replace("\ufffd", "_")
+        return content.decode("utf-16", errors="replace")
+    plain = content.removeprefix(codecs.BOM_UTF8)
+    try:
+        return plain.decode()
+    except UnicodeDecodeError:
+        return plain.decode("cp1252", errors="replace")
 
 
 def is_magnetic(block: gemmi.cif.Block) -> bool:

@@ -14,12 +14,13 @@ from typing import Any
 
 from ...errors import PackageMissing, lacking
 from ...other_forms import is_poscar
-from ...provenance import OTHER, Note
+from ...provenance import DROPPED, Note
 from ...reading import CIF_SUFFIXES
 from ...refusal import Refused
 from ..atoms.crystal import Crystal
 from .document import blocks_of, text_of_file
 from .given import bounded_cell, crystal_of_atoms
+from .poscar import as_ase_reads
 from .structure import read_crystal
 
 XYZ_SUFFIXES = (".xyz", ".extxyz")
@@ -58,8 +59,10 @@ def _crystal_by_ase(content: bytes, format_of_ase: str, name: str, notes: list[N
     except ModuleNotFoundError as missing:
         advice = lacking(missing, "apt-get install python3-ase")
         raise PackageMissing(f"a file {format_of_ase} is read by ase: {advice}") from None
+    text = text_of_file(content)
+    text = as_ase_reads(text, notes) if format_of_ase == "vasp" else text
     try:
-        frames: list[Any] = read(StringIO(text_of_file(content)), index=":", format=format_of_ase)
+        frames: list[Any] = read(StringIO(text), index=":", format=format_of_ase)
         atoms = frames[-1]
         cell, places = bounded_cell(atoms.cell.array, atoms.get_positions(), atoms.pbc)
         symbols = atoms.get_chemical_symbols()
@@ -68,7 +71,7 @@ def _crystal_by_ase(content: bytes, format_of_ase: str, name: str, notes: list[N
     except Exception as fault:  # of ase, in many kinds
         raise Refused(f"no {format_of_ase} file that ase reads: {type(fault).__name__} {fault}") from None
     if len(frames) > 1:
-        notes.append(Note(OTHER, f"the last of {len(frames)} structures is read"))
+        notes.append(Note(DROPPED, f"the last of {len(frames)} structures is read"))
     if not any(atoms.pbc):
         raise Refused("there is no lattice: the atoms are no crystal")
     crystal = crystal_of_atoms(name, cell, [{symbol: 1.0} for symbol in symbols], places)

@@ -16,11 +16,12 @@ from ...provenance import DOUBT, SYMMETRY, Note
 from ..atoms.places import images_of, name_apart, take_once
 from ...refusal import Refused
 from ..atoms.sanity import check_metric, judge, keeps_metric
-from .sites import number_of, read_bonds, read_sites
-from .symmetry import Symmetry, both_origins, named_symmetry, read_symmetry, text_of
+from .sites import number_of, read_bonds, read_sites, text_of
+from .symmetry import Symmetry, both_origins, doubt_of_symmetry, named_symmetry, other_settings, read_symmetry
 
 LONGEST_EDGE = 1000.0  # angstrom, of a unit cell
 MOST_ATOMS = 20_000    # of a primitive cell
+TURN = 10.0            # degrees: a cell that is turned so much strains the operations that keep its angle
 CELL_TAGS = ("length_a", "length_b", "length_c", "angle_alpha", "angle_beta", "angle_gamma")
 ABSENT = {"angle_alpha": 90.0, "angle_beta": 90.0, "angle_gamma": 90.0}  # as the dictionary has it
 
@@ -55,6 +56,8 @@ def read_crystal(block: Block) -> Crystal:
     if crystal.shortage:
         crystal.misfit = ""
         crystal.noted_doubt(crystal.shortage)
+    crystal.noted_doubt(doubt_of_symmetry(block.cif, cell, symmetry) or _doubt_of_setting(symmetry, cell))
+    crystal.noted_doubt(_doubt_of_angles(block.cif, cell, symmetry))
     return crystal.noted_doubt(expected.doubt_of(_in_cell(crystal, cell)))
 
 
@@ -92,6 +95,22 @@ def _with_named_group(block: Block, cell: gemmi.UnitCell, crystal: Crystal, list
         return crystal.noted_doubt(told + ": they are taken" + (", as Z fits" if fitting else ""))
     other = min(fitting, key=lambda one: (not expected.fits(_in_cell(one, cell)), len(one.atoms)))
     return other.noted_doubt(told + ": the group is taken")
+
+
+def _doubt_of_setting(symmetry: Symmetry, cell: gemmi.UnitCell) -> str:
+    """What is to be told where a group is given by its number alone, and the cell fits several of its settings."""
+    others = [other for other in other_settings(symmetry) if keeps_metric(other, cell)]
+    return f"the setting is in doubt: {symmetry.source} is taken, and {others[0].source} fits too" if others else ""
+
+
+def _doubt_of_angles(block: gemmi.cif.Block, cell: gemmi.UnitCell, symmetry: Symmetry) -> str:
+    """What is to be told where angles are absent that the symmetry leaves open."""
+    lengths, angles = (cell.a, cell.b, cell.c), [cell.alpha, cell.beta, cell.gamma]
+    absent = [tag for tag in ABSENT if not text_of(block, (f"_cell_{tag}",))]
+    turned = [gemmi.UnitCell(*lengths, *(angle + TURN * (other == tag) for angle, other in zip(angles, ABSENT)))
+              for tag in absent]
+    is_open = [tag[6:] for tag, other in zip(absent, turned) if keeps_metric(symmetry, other)]
+    return f"no value of {' and '.join(is_open)} is given: 90 degrees are taken" if is_open else ""
 
 
 def _atoms_by_volume(crystal: Crystal) -> float:

@@ -3,6 +3,8 @@
 from __future__ import annotations
 
 import re
+from collections.abc import Iterator
+from contextlib import suppress
 from dataclasses import dataclass
 from fractions import Fraction
 
@@ -13,13 +15,16 @@ from ...lattice import staircase
 from ...refusal import Refused
 from .document import is_magnetic
 from .names import group_of_name
+from .sites import NO_VALUE, text_of
 
-OPERATION_TAGS = ("_space_group_symop_operation_xyz", "_symmetry_equiv_pos_as_xyz",
-                  "_space_group_symop.operation_xyz")
+OPERATION_TAGS = ("_space_group_symop_operation_xyz", "_symmetry_equiv_pos_as_xyz")
 HALL_TAGS = ("_space_group_name_Hall", "_symmetry_space_group_name_Hall")
-NAME_TAGS = ("_space_group_name_H-M_alt", "_symmetry_space_group_name_H-M",
-             "_space_group.name_H-M_full")
+NAME_TAGS = ("_space_group_name_H-M_alt", "_symmetry_space_group_name_H-M", "_space_group_name_H-M_full",
+             "_space_group_name_H-M", "_symmetry_space_group_name_H-M_alt", "_space_group_name_H-M_ref")
 NUMBER_TAGS = ("_space_group_IT_number", "_symmetry_Int_Tables_number")
+OTHER_TAGS = ("_space_group_name_Schoenflies", "_space_group_crystal_system", "_symmetry_cell_setting")  # not read
+TRICLINIC = 2  # the last number of a group whose other settings nobody takes
+NOT_GIVEN = "no symmetry given: P 1"
 DECIMAL = re.compile(r"\d*\.\d+")
 OF_FRACTION = 0.001     # between a decimal of an operation and the fraction that it means
 ORIGINS = (":1", ":2")  # how the table of groups names the two, where there are two
@@ -36,21 +41,12 @@ class Symmetry:
     has_origin: bool = True   # whether it is certain which origin of the group is meant
     order: int = 1            # of the group, with the translations within the cell
     number: int = 0           # of the type of the group; 0 where it is in no setting of the table
-
-
-def text_of(block: gemmi.cif.Block, tags: tuple[str, ...]) -> str:
-    """The first value that one of the tags has, without quotes; or an empty text."""
-    for tag in tags:
-        for value in block.find_values(tag):
-            text = gemmi.cif.as_string(value).strip()
-            if text not in ("", "?", "."):
-                return text
-    return ""
+    setting: str = ""         # the name that the table has for these operations; empty where it has none
 
 
 def read_symmetry(block: gemmi.cif.Block, cell: gemmi.UnitCell) -> Symmetry:
     """Explicit operations before a Hall symbol, before a name, before a number."""
-    listed = [gemmi.cif.as_string(v) for tag in OPERATION_TAGS for v in block.find_values(tag)]
+    listed = [gemmi.cif.as_string(v) for tag in OPERATION_TAGS for v in block.find_values(tag) if v not in NO_VALUE]
     listed = listed or _magnetic_operations(block)
     if listed:
         return _symmetry(_listed_group(listed), "operations")
@@ -59,10 +55,25 @@ def read_symmetry(block: gemmi.cif.Block, cell: gemmi.UnitCell) -> Symmetry:
         return named
     if is_magnetic(block):
         raise Refused("a magnetic structure without operations: such files are not read")
-    name, number = _name_of(block), text_of(block, NUMBER_TAGS)
+    name, number = _name_of(block) or text_of(block, HALL_TAGS), text_of(block, NUMBER_TAGS)
     if name or number not in ("", "1"):
         raise Refused(f"space group {name or number} is not known")
-    return _symmetry(gemmi.GroupOps([gemmi.Op("x,y,z")]), "no symmetry given: P 1")
+    return _symmetry(gemmi.GroupOps([gemmi.Op("x,y,z")]), "number P 1" if number else NOT_GIVEN)
+
+
+def doubt_of_symmetry(block: gemmi.cif.Block, cell: gemmi.UnitCell, taken: Symmetry) -> str:
+    """What is to be told where a file gives no symmetry that is read, or names several groups."""
+    if taken.source == NOT_GIVEN:
+        others = [f"{tag} {text}" for tag in OTHER_TAGS if (text := text_of(block, (tag,)))]
+        return "no symmetry is given, and P 1 is taken" + (f": {', '.join(others)} is not read" if others else "")
+    if taken.source == "operations":
+        return ""
+    for other in _named_symmetries(block, cell):
+        is_exact = other.has_origin and not other.source.startswith("number")
+        if taken.number and (other.number != taken.number or (is_exact and other.setting != taken.setting)):
+            return (f"the file gives {taken.source}, which is taken, and {other.source}, which is another group or "
+                    "setting")
+    return ""
 
 
 def _magnetic_operations(block: gemmi.cif.Block) -> list[str]:
@@ -84,17 +95,28 @@ def _magnetic_operations(block: gemmi.cif.Block) -> list[str]:
 
 def named_symmetry(block: gemmi.cif.Block, cell: gemmi.UnitCell) -> Symmetry | None:
     """The operations of the group that a Hall symbol, a name or a number gives, whatever is listed."""
+    return next(_named_symmetries(block, cell), None)
+
+
+def _named_symmetries(block: gemmi.cif.Block, cell: gemmi.UnitCell) -> Iterator[Symmetry]:
+    """The operations by the Hall symbol, by the name and by the number, as far as they are known."""
     hall = text_of(block, HALL_TAGS)
     if hall:
-        try:
-            return _symmetry(gemmi.symops_from_hall(hall), f"Hall symbol {hall}")
-        except (RuntimeError, ValueError):
-            pass  # the name may be better
+        with suppress(RuntimeError, ValueError):  # the name may be better
+            yield _symmetry(gemmi.symops_from_hall(hall), f"Hall symbol {hall}")
     for what, text in (("name", _name_of(block)), ("number", _name_of_number(text_of(block, NUMBER_TAGS)))):
         named = group_of_name(text, cell) if text else None
         if named:
-            return _symmetry(named.group.operations(), f"{what} {named.group.xhm()}", named.is_origin_given)
-    return None
+            yield _symmetry(named.group.operations(), f"{what} {named.group.xhm()}", named.is_origin_given)
+
+
+def other_settings(taken: Symmetry) -> list[Symmetry]:
+    """The settings of a group that is given by its number alone, but for the one that is taken, with both origins."""
+    if not taken.source.startswith("number") or taken.number <= TRICLINIC:
+        return []
+    own = taken.setting.partition(":")[0]
+    return [_symmetry(group.operations(), group.xhm()) for group in gemmi.spacegroup_table()
+            if group.number == taken.number and group.hm != own]
 
 
 def both_origins(block: gemmi.cif.Block, cell: gemmi.UnitCell) -> list[Symmetry]:
@@ -124,7 +146,7 @@ def _symmetry(group: gemmi.GroupOps, source: str, has_origin: bool = True) -> Sy
     rows = staircase(units + [tuple(c) for c in group.cen_ops])
     setting = gemmi.find_spacegroup_by_ops(group)
     return Symmetry(rotations, translations, np.array(rows, dtype=float) / den, source, has_origin, len(group),
-                    setting.number if setting else 0)
+                    *((setting.number, setting.xhm()) if setting else (0, "")))
 
 
 def _listed_group(listed: list[str]) -> gemmi.GroupOps:
