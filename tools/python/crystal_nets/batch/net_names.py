@@ -8,7 +8,6 @@ field says by what each name is certain."""
 from __future__ import annotations
 
 import argparse
-import os
 import re
 import signal
 import subprocess
@@ -18,6 +17,7 @@ from collections.abc import Iterator
 from pathlib import Path
 
 from ..errors import NotANet
+from ..program import find_program
 from ..texts.archive_text import entries_of
 from ..texts.graph_text import plain
 from ..texts.net_text import NoReport, chunks_of
@@ -28,7 +28,8 @@ Told = tuple[int, bytes, bytes, bytes]  # number, name in the archive, own name,
 WITHOUT_KEY = re.compile(rb"refused [4-7] |malformed [89] ")
 
 EPILOG = """exit status: 0 told; 1 a file is not there, or is not one of rows with keys; 2 usage; else that of
-net_tool, which refused an archive. NET_TOOL is the program, net_tool where it is not set."""
+net_tool, which refused an archive. NET_TOOL is the program; where it is not set, the one of this installation
+or repository, or net_tool on the path."""
 
 
 def words() -> argparse.Namespace:
@@ -56,7 +57,7 @@ def archives_of(path: Path) -> list[Path]:
 
 def check_archive(archive: Path) -> None:
     """Has net_tool compute all keys of the archive anew."""
-    done = subprocess.run([os.environ.get("NET_TOOL", "net_tool"), "duplicates", "--archive", archive],
+    done = subprocess.run([find_program(), "duplicates", "--archive", archive],
                           stdin=subprocess.DEVNULL, stdout=subprocess.PIPE)
     if done.returncode != 0:
         told = done.stdout.split(b"\n")[0].decode(errors="replace")
