@@ -149,7 +149,7 @@ explain() {
     6) echo "net_tool: a file or an archive has more than 16,777,216 bytes; split_nets cuts it" >&2 ;;
     7) echo "net_tool: memory was refused" >&2 ;;
     8) echo "net_tool: the file has more than 4,096 blocks or items; split_nets cuts it" >&2 ;;
-    20) echo "net_tool: the host gives no arguments that are UTF-8, as a file's name may be none; hand that file on by <" >&2 ;;
+    20) echo "net_tool: the arguments cannot be read, as where a file's name is not UTF-8; hand that file on by <" >&2 ;;
     126 | 127) echo "net_tool: the program cannot be run: $program" >&2 ;;
     132) echo "net_tool: this processor lacks instructions that the program was built with (x86-64-v2)" >&2 ;;
     esac

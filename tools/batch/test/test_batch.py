@@ -266,6 +266,13 @@ class Texts(FolderTest):
         for line in (parts, b"net 1 line 1\nsomething else\n", b"net 1 line 1\n"):
             self.assertEqual(run(BATCH / "net_rows", stdin=line, status=1).stdout, b"")
 
+    def test_the_program_of_the_repository_reads_the_archive(self):
+        """It is found where nothing names one."""
+        rows = self.folder / "rows"
+        rows.write_bytes(run(BATCH / "net_rows", stdin=run(PROGRAM, "key", TOP / "examples/dia.cgd").stdout).stdout)
+        told = run(BATCH / "net_names", ARCHIVE, rows, NET_TOOL="").stdout
+        self.assertEqual(told, b"1\tdia\tdia, diamond\n")
+
     def test_what_is_no_report(self):
         run(BATCH / "net_rows", stdin=b"usage: net_tool\n", status=1)
 

@@ -16,9 +16,8 @@ HOMES = {"cif2cgd": "structures.command", "cgd2net": "blocks.command", "make_arc
                                                "accepted_nets", "archive_nets", "component_nets", "wide_archive")}}
 # what a command needs before it can say so by itself
 PACKAGES = {"cif2cgd": "python3-gemmi python3-numpy python3-scipy",
-            "cgd2net": "python3-gemmi python3-numpy python3-scipy python3-spglib",
-            "make_archives": "python3-gemmi python3-numpy python3-scipy python3-spglib", "draw_nets": "python3-numpy",
-            "net_gallery": "python3-numpy"}
+            "cgd2net": "python3-gemmi python3-numpy", "make_archives": "python3-gemmi python3-numpy",
+            "draw_nets": "python3-numpy", "net_gallery": "python3-numpy"}
 FAILED = {"net_table": 3, "make_archives": 3}  # the status where nothing can be done; 1 of all others
 WITH_SMALL_MATRICES = ("cif2cgd", "net_table")  # for which threads would wait for each other
 INTERRUPTED = 130  # the status that a shell gives a command that Ctrl-C ends

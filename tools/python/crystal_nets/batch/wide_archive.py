@@ -16,7 +16,8 @@ from ..side_by_side import bind_programs
 from ..wide.archive import write_wide_archive
 from ..wide.naming import is_asked
 
-EPILOG = """exit status: 0 all is taken; 1 something is left out; 2 usage. NET_TOOL is the program.
+EPILOG = """exit status: 0 all is taken; 1 something is left out; 2 usage.
+NET_TOOL is the program; where it is not set, the one of this installation or repository, or net_tool on the path.
 example: wide_archive ~/.local/share/net_tool/archives/mine mine.cgd"""
 
 

@@ -36,7 +36,7 @@ DESCRIPTION = """Archives of the nets of .cgd and .arc files: NAME.archive, and 
 cannot hold them all. What is refused, and why, goes to NAME.refused. Nets that have no key, but a name, are told by
 maps: they go to NAME.wide.cgd, with the index NAME.wide.index."""
 EPILOG = """exit status: 0 each net is taken; 1 some net is refused; 2 usage; 3 nothing is made.
-NET_TOOL is the program; where it is not set, that of the repository, or net_tool on the path."""
+NET_TOOL is the program; where it is not set, the one of this installation or repository, or net_tool on the path."""
 
 
 class Failed(Exception):

@@ -21,7 +21,8 @@ from ..texts.net_text import NetReport, nets_of_report
 from .command import Wanted, draw, number_of_jobs
 
 EPILOG = """exit status: 0 each net is drawn; 1 some net has no picture, or a file is no archive; 2 usage; else that of
-net_tool. NET_TOOL is the program; where it is not set, the one of this repository or net_tool."""
+net_tool. NET_TOOL is the program; where it is not set, the one of this installation or
+repository, or net_tool on the path."""
 
 
 def words() -> argparse.Namespace:

@@ -30,10 +30,11 @@ from .plan import Failed, Plan, SourceAway, check_source, files_of, plan_of, rea
 
 DESCRIPTION = """The table of all nets of a source: a folder of structure files (.cif and others) and files of nets (.cgd,
 .arc), each packed by gzip or not, or one such file, with any number of nets. FOLDER gets table.tsv, a line for each net;
-groups.tsv, the nets that are the same; names.tsv, those that archives have; and refused.tsv, those without a key, and why. A run that
-broke off is taken up by the same command: what was done is kept in FOLDER/work."""
+groups.tsv, the nets that are the same; names.tsv, those that archives have; and refused.tsv, those without a key, and
+why. A run that broke off is taken up by the same command: what was done is kept in FOLDER/work."""
 EPILOG = """exit status: 0 each net has a key; 1 some net has none; 2 usage; 3 nothing can be done, or a process was
-ended from outside; 75 a file of the source cannot be read now, and the same command tries again; else that of net_tool. NET_TOOL is the program, net_tool where it is not set.
+ended from outside; 75 a file of the source cannot be read now, and the same command tries again; else that of net_tool.
+NET_TOOL is the program; where it is not set, the one of this installation or repository, or net_tool on the path.
 example: net_table structures results --jobs 4 --archive archives"""
 SOME_REFUSED, FAILED = 1, 3
 TRY_AGAIN = 75  # EX_TEMPFAIL of sysexits.h
@@ -44,7 +45,7 @@ SWITCHES = {"keep_ions": "keep the cations that a framework holds as guests", "h
 
 
 def words() -> argparse.Namespace:
-    parser = argparse.ArgumentParser(prog="net_table", description=DESCRIPTION, epilog=EPILOG,
+    parser = argparse.ArgumentParser(prog="net_table", usage="net_table [options] [SOURCE] FOLDER", description=DESCRIPTION, epilog=EPILOG,
                                      formatter_class=argparse.RawDescriptionHelpFormatter)
     parser.add_argument("paths", metavar="[SOURCE] FOLDER", nargs="+", type=Path,
                         help="FOLDER alone takes up what is planned there")
