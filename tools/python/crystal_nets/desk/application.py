@@ -10,12 +10,13 @@ from typing import Any
 from flask import Flask, Response, request
 from werkzeug.exceptions import BadRequest, HTTPException
 
+from ..files import content_of_file
 from ..options import CONVENTION_NAMES
 from ..pictures.text import PALETTE
 from ..provenance import Provenance
 from . import questions
 from .connections import Connections
-from .files import FITTING, content_of, shown_name
+from .files import FITTING, shown_name
 from .guard import MOST_BYTES, TOO_LARGE, Guard, Rejected, with_headers
 from .worker import ClientGone, NoAnswer, Workers
 
@@ -86,7 +87,7 @@ def add_given(app: Flask, given: Sequence[Path]) -> None:
         if number >= len(given):
             return told("there is no such file", 404)
         try:
-            content = content_of(given[number], MOST_BYTES + 1)
+            content = content_of_file(given[number], MOST_BYTES + 1)
         except OSError as fault:
             return told(f"it cannot be read: {fault.strerror}", 404)
         return told(TOO_LARGE, 413) if len(content) > MOST_BYTES else Response(content, mimetype="application/octet-stream")
