@@ -115,10 +115,10 @@ def add_questions(app: Flask, workers: Workers, connections: Connections) -> Non
         return ask(questions.rows, nets_of_form("nets"))
 
     def card(token: str) -> Response:
-        return ask(questions.card, nets_of_form("net", most=1)[0])
+        return ask(questions.card, net_of_form())
 
     def topology(token: str) -> Response:
-        return ask(questions.topology, nets_of_form("net", most=1)[0])
+        return ask(questions.topology, net_of_form())
 
     def atoms(token: str) -> Response:
         return ask(questions.atoms, *file_of_form(), options_of_form(), text("block").encode())
@@ -176,6 +176,14 @@ def nets_of_form(name: str, most: int = MOST_ROWS) -> list[dict[str, Any]]:
     except (ValueError, TypeError, KeyError, OverflowError, RecursionError):
         raise BadRequest(f"{name} has a net that is not as it was told") from None
     return items
+
+
+def net_of_form() -> dict[str, Any]:
+    """A net that was read, as the page was told of it."""
+    item, = nets_of_form("net", most=1)
+    if "text" in item:
+        raise BadRequest("net is a block that waits to be read")
+    return item
 
 
 def check_net(item: dict[str, Any]) -> None:
