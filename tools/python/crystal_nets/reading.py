@@ -101,7 +101,7 @@ def _nets_found(file: Path, options: Mapping[str, object]) -> list[Net]:
     return _read_from(file, _nets_of_content(content, named, _options_for(file.name, options)))
 
 
-def _read_from(file: str | os.PathLike[str], nets: list[Net]) -> list[Net]:
+def _read_from(file: str | bytes | os.PathLike[str], nets: list[Net]) -> list[Net]:
     """Nets that know their file."""
     return [net.of_provenance(net.provenance.read_from(os.fsdecode(file))) for net in nets]
 
