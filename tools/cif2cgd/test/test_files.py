@@ -2,6 +2,7 @@
 
 import glob
 import json
+import os
 import random
 import re
 from pathlib import Path
@@ -143,6 +144,16 @@ class ManyFiles(FolderTest):
     def test_names_keep_the_folder_where_two_stems_agree(self):
         names = re.findall(rb'(?m)^NAME "(.*)"', run(COMMAND, self.folder, status=1).stdout)
         self.assertEqual(names, [b"a/one", b"two", b"b/one", b"c/one"])
+
+    def test_a_pipe_in_a_folder_is_told_and_not_waited_for(self):
+        os.mkfifo(self.folder / "a/pipe.cif")
+        done = run(COMMAND, self.folder, status=1, seconds=60)
+        self.assertEqual(done.stdout.count(b"PERIODIC_GRAPH"), 4)
+        self.assertIn(b"pipe.cif: refused: not readable: it is no file, but a pipe", done.stderr)
+
+    def test_a_pipe_that_is_named_is_read(self):
+        done = run("bash", "-c", f"{COMMAND} <(cat {self.folder}/a/one.cif)")
+        self.assertEqual(done.stdout.count(b"PERIODIC_GRAPH"), 1)
 
     def test_notes_as_json(self):
         file = self.folder / "notes"

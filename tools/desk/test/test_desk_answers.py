@@ -4,13 +4,14 @@ import json
 import os
 import random
 import re
+import signal
 import unittest
 import unittest.mock
 from dataclasses import replace
 from pathlib import Path
 
 from desk import memory_for_program, need_desk
-from testing import IS_LONG, TOP
+from testing import IS_LONG, TOP, FolderTest
 
 need_desk()
 import numpy as np  # noqa: E402
@@ -23,7 +24,7 @@ from crystal_nets.desk.files import shown_name  # noqa: E402
 from crystal_nets.desk.pairs import difference, pair  # noqa: E402
 from crystal_nets.desk.reasons import FAULTS, REFUSALS  # noqa: E402
 from crystal_nets.desk.rows import rows_of  # noqa: E402
-from crystal_nets.desk.worker import Limits, NoAnswer, Workers  # noqa: E402
+from crystal_nets.desk.worker import Limits, NoAnswer, Workers, answer_to  # noqa: E402
 from crystal_nets.desk.woven import cosets, woven  # noqa: E402
 from crystal_nets.program import run  # noqa: E402
 from crystal_nets.provenance import DOUBT, LEFT_OUT, Note, Provenance  # noqa: E402
@@ -62,6 +63,8 @@ Cu 0 0 0
 O .25 .25 .25
 """
 MUTANTS = 2_000 if IS_LONG else 60
+FIELDS = {"name": "x", "block": "PERIODIC_GRAPH\nEDGES\n1 1 1 0\n1 1 0 1\nEND\n", "refusal": "",
+          "provenance": Provenance().to_dict()}  # of a net, as the page sends it
 CUBIC = [(1, 1, (1, 0, 0)), (1, 1, (0, 1, 0)), (1, 1, (0, 0, 1))]
 COLLISION = [(1, 2, (0, 0, 0)), (1, 3, (0, 0, 0)), (2, 4, (0, 0, 0)), (3, 4, (0, 0, 0)), (4, 1, (1, 0, 0)),
              (1, 1, (0, 1, 0)), (4, 4, (0, 0, 1))]
@@ -403,8 +406,20 @@ class Names(unittest.TestCase):
         self.assertTrue(shown_name("x" * 900 + ".cif").endswith(".cif"))
 
 
-class Stopped(unittest.TestCase):
+class Stopped(FolderTest):
     """Work past its limits, by questions that do nothing else."""
+
+    def test_a_program_that_is_killed(self):
+        """That is no matter of time."""
+        for number, told in ((signal.SIGKILL, "net_tool was ended by SIGKILL"), (signal.SIGXCPU, "stopped after 60 seconds")):
+            with unittest.mock.patch.dict(os.environ, {"NET_TOOL": self.killed_by(number)}):
+                self.assertIn(told, answer_to(questions.card, (FIELDS,), Limits())["reason"])
+
+    def killed_by(self, number: int) -> str:
+        program = self.folder / f"program{number}"
+        program.write_text(f"#!/bin/sh\nkill -{number} $$\n")
+        program.chmod(0o755)
+        return str(program)
 
     def test_time_and_memory(self):
         workers = Workers(Limits(1, 900 << 20), most=2)
@@ -417,6 +432,9 @@ class Stopped(unittest.TestCase):
             workers.ask(end_myself)
         with self.assertRaisesRegex(NoAnswer, "ended without an answer .status 3"):
             workers.ask(os._exit, 3)
+        with self.assertRaisesRegex(NoAnswer, f"ended from outside, by signal {signal.SIGRTMIN + 1}"):
+            workers.ask(end_myself, signal.SIGRTMIN + 1)
+        self.assertIn("more than 900 MB", json.loads(workers.ask(many_letters))["reason"])
         self.assertIn("ZeroDivisionError", json.loads(workers.ask(divmod, 1, 0))["reason"])
         self.assertEqual(json.loads(workers.ask(divmod, 7, 3)), [2, 1])
 
@@ -430,8 +448,13 @@ def all_memory() -> int:
     return len(bytearray(4 << 30))
 
 
-def end_myself() -> None:
-    os.kill(os.getpid(), 9)
+def many_letters() -> str:
+    """A text that is past the memory once it is written as JSON."""
+    return "\u00e9" * (120 << 20)
+
+
+def end_myself(number: int = signal.SIGKILL) -> None:
+    os.kill(os.getpid(), number)
 
 
 if __name__ == "__main__":

@@ -44,6 +44,22 @@ let behind = element;
 while (behind !== document.body && parts(getComputedStyle(behind).backgroundColor)[3] === 0) behind = behind.parentElement;
 const two = [getComputedStyle(element).color, getComputedStyle(behind).backgroundColor].map(light).sort((a, b) => a - b);
 return (two[1] + 0.05) / (two[0] + 0.05);"""
+# silicon, with longer bonds than it has
+FAR = """data_far
+_cell_length_a 6.9
+_cell_length_b 6.9
+_cell_length_c 6.9
+_cell_angle_alpha 90
+_cell_angle_beta 90
+_cell_angle_gamma 90
+_symmetry_space_group_name_H-M 'F d -3 m:1'
+loop_
+_atom_site_label
+_atom_site_fract_x
+_atom_site_fract_y
+_atom_site_fract_z
+Si 0 0 0
+"""
 TEXTS = ("body", "dt", ".dim", ".reason p", "summary", "button", ".names small", ".different, .unknown", ".opener", ".told .of-told")
 
 
@@ -346,6 +362,27 @@ class Browser(unittest.TestCase):
             self.assertIsNone(archive.testzip())
             self.assertLessEqual({"nets.csv", "quartz.cgd", "quartz.report", "quartz.svg", "dia.svg"}, set(archive.namelist()))
 
+    def test_no_two_nets_are_saved_under_one_name(self):
+        """Also where names differ in what no file's name has, in capital letters, or in a number at their end."""
+        names = ["a-2", "a", "a", "A", "a", "a b", "a_b", "a?b", "a-2-2", "a-2", "", "net", "../a", "x" * 80, "x" * 90, *["y"] * 20_000]
+        stems = self.driver.execute_script("const taken = new Map(); return arguments[0].map(name => stemOf(name, taken))", names)
+        self.assertEqual(len({stem.lower() for stem in stems}), len(names))
+        self.assertEqual(stems[:5], ["a-2", "a", "a-3", "A-4", "a-5"])
+
+    def test_what_is_not_read_yet_is_told_where_all_is_saved(self):
+        text = (EXAMPLES.parent / "archives/common.cgd").read_text()
+        self.driver.execute_script("window.ask = (inner => async (path, ...rest) => path === 'rows' ? new Promise(() => {}) : inner(path, ...rest))(ask)")
+        self.driver.execute_script(DROP, [["common.cgd", text]])
+        self.until(lambda: "24 of 218 nets" in self.driver.find_element(By.ID, "progress").text)
+        self.click("#save-blocks")
+        told = lambda: self.driver.find_element(By.ID, "told").text  # noqa: E731
+        self.assertIn("194 nets are not read yet", told())
+        self.driver.execute_script("window.save = (...given) => { window.saved = given; }")
+        self.click("#save-all")
+        self.until(lambda: told().startswith("24 nets were saved"))
+        self.assertIn("194 nets are not read yet", told())
+        self.assertEqual(self.driver.execute_script("return window.saved.slice(0, 2)"), ["nets", ".zip"])
+
     def test_a_formula_in_a_name_is_a_text(self):
         text = 'PERIODIC_GRAPH\nNAME "=1+1"\nEDGES\n1 1 1 0\n1 1 0 1\nEND\n'
         self.driver.execute_script(DROP, [["-x.cgd", text]])
@@ -493,6 +530,83 @@ class Browser(unittest.TestCase):
     def check_contrasts(self) -> None:
         for selector in TEXTS:
             self.assertGreater(self.driver.execute_script(CONTRAST, selector), 4.5, selector)
+
+    def test_files_that_are_too_many_are_told(self):
+        """However many, and what comes after it; so are files of a ZIP archive that have a password."""
+        self.driver.execute_script("window.answerOf = async () => ({ reason: 'no' });")
+        warned = lambda: self.driver.find_element(By.ID, "warned").text  # noqa: E731
+        self.driver.execute_script(DROP, [[f"{k}.cgd", "x"] for k in range(2003)])
+        self.until(lambda: "Only the first 2,000 files are taken; 2000.cgd and those after it are left out." in warned())
+        self.driver.execute_script("""window.ask = async path => path === 'unzip' ? { files: Array.from({ length: 1500 },
+            (_, k) => ({ name: `${k}.cgd`, content: 'eA==' })), told: '1 of its files have a password, and are left out' } : { reason: 'no' };
+            document.getElementById('all-away').click();""")
+        self.assertEqual(warned(), "")
+        self.driver.execute_script(DROP.replace("[text]", "[Uint8Array.from(text)]"),
+                                   [[name, [0x50, 0x4b, 3, 4]] for name in ("one.zip", "other.zip", "third.zip")])
+        self.until(lambda: "500.cgd and those after it" in warned())
+        self.assertIn("one.zip: 1 of its files have a password, and are left out.", warned())
+        self.assertEqual(self.driver.execute_script("return sources.length"), 2000)
+
+    def test_a_file_that_cannot_be_read_takes_no_other_with_it(self):
+        self.driver.execute_script("""const broken = new File(['x'], 'broken.cif');
+            broken.slice = () => ({ arrayBuffer: () => Promise.reject(new Error('gone')) });
+            take([{ file: broken }, { file: new File([arguments[0]], 'sql.cgd') }]);""", (EXAMPLES / "sql.cgd").read_text())
+        self.ready(2)
+        self.assertEqual(self.column(3), ["broken.cif", "sql.cgd"])
+        self.assertIn("it cannot be read", self.rows()[0][-1])
+        self.assertIn("1 net, 1 not read", self.driver.find_element(By.ID, "counts").text)
+        reasons = self.driver.execute_async_script("""const done = arguments[0], file = new File(['x'], 'broken.cif');
+            file.slice = () => ({ arrayBuffer: () => Promise.reject(new Error('gone')) });
+            window.fetch = async () => { throw new TypeError('no'); };
+            const sound = new File(['x'], 'sound.cif');
+            Promise.all([file, sound].map(file => ask('nets', { file }))).then(done);""")
+        self.assertIn("net_desk does not answer", reasons[1]["reason"])
+
+    def test_a_file_of_the_command_line_that_went_away_is_told(self):
+        paths = [Path(self.home) / name for name in ("gone.cgd", "there.cgd")]
+        for path in paths:
+            path.write_bytes((EXAMPLES / "sql.cgd").read_bytes())
+        server = Server(*paths, "--memory", memory_for_program())
+        try:
+            paths[0].unlink()
+            self.driver.get(server.address)
+            self.ready(2)
+            self.assertEqual(self.column(3), ["gone.cgd", "there.cgd"])
+            self.assertIn("it cannot be read: No such file", self.rows()[0][-1])
+        finally:
+            self.driver.get_log("browser")  # which tells of the answer 404
+            self.driver.get(self.server.address)
+            server.end()
+
+    def test_no_name_and_no_net_without_its_doubts(self):
+        """In the table, on a card, in the CSV and side by side; also on a phone, and among small pictures."""
+        zeolites = (EXAMPLES.parent / "archives/zeolites.cgd").read_text()
+        block = re.search(r'PERIODIC_GRAPH\nNAME "SVR"\n.*?END\n', zeolites, re.DOTALL)[0]
+        self.driver.execute_script(DROP, [["SVR.cgd", block], ["far.cif", FAR], ["dia.cgd", (EXAMPLES / "dia.cgd").read_text()]])
+        self.ready(3)
+        svr, far, _ = self.rows()
+        self.assertEqual(svr[4], "SVR (verified map)")
+        self.assertIn("in doubt: bonds in doubt: Si-Si 2.99 taken, longer than a bond", far[-1])
+        self.assertIn("symmetry from name F d -3 m:1", far[-1])
+        rows = list(csv.DictReader(io.StringIO(self.driver.execute_script("return tableText(shown)"))))
+        self.assertEqual((rows[0]["names"], rows[0]["by"]), ("SVR", "verified map"))
+        self.assertIn("Si-Si 2.99 taken", rows[1]["doubts"])
+        for box in self.all("#rows input[type=checkbox]")[1:]:
+            self.driver.execute_script("arguments[0].click()", box)
+        self.until(lambda: "far is in doubt:" in self.driver.find_element(By.ID, "verdict").text)
+        seen = lambda: [cell.is_displayed() for cell in self.all("#rows > tr > .of-told")]  # noqa: E731
+        self.click("#with-pictures")
+        self.assertEqual(seen(), [True, True, False])
+        self.click("#with-pictures")
+        size = {"width": 360, "height": 700, "deviceScaleFactor": 1, "mobile": True}
+        self.driver.execute_cdp_cmd("Emulation.setDeviceMetricsOverride", size)
+        try:
+            self.assertEqual(seen(), [True, True, False])
+        finally:
+            self.driver.execute_cdp_cmd("Emulation.clearDeviceMetricsOverride", {})
+        told = self.driver.execute_script("""return toldText({ why: 'No key.', doubts: ['one'], left_out: ['two'], notes: ['three'],
+            state: 'known', source: {} })""")
+        self.assertEqual(told, "No key. | in doubt: one | left out: two | three")
 
     def test_files_without_a_net(self):
         many = (EXAMPLES / "sql.cgd").read_text() * 30

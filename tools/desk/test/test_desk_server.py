@@ -202,6 +202,9 @@ class WhatIsSent(WithServer):
             for path, name in (("rows", "nets"), ("card", "net"), ("topology", "net")):
                 body, kind = form_of({name: value})
                 self.reason(self.server.request("POST", path, body, Content_Type=kind), 400)
+        for path in ("card", "topology"):
+            body, kind = form_of({"net": '[{"text": "PERIODIC_GRAPH", "line": 1}]'})
+            self.assertIn("waits to be read", self.reason(self.server.request("POST", path, body, Content_Type=kind), 400))
         for path in ("card", "rows", "pair", "crystal", "nets", "unzip", "atoms"):
             self.reason(self.server.request("POST", path), 400)
 
@@ -239,6 +242,12 @@ class WhatIsSent(WithServer):
             self.assertEqual(len(answer["rows"]), 1, name[:40])
             self.assertNotRegex(answer["rows"][0]["name"], r"[/\\\x00]")
             self.assertLess(len(answer["rows"][0]["name"]), 200)
+
+    def test_names_of_nets_have_nothing_that_is_not_shown(self):
+        for name in (b"a\x01\x1b[31mb", b"a\x00b", b"a\xffb", "a\u202eb".encode(), "a\u2066b".encode()):
+            row, = self.server.nets("a.cgd", SQL.replace(b"EDGES", b'NAME "' + name + b'"\nEDGES'))["rows"]
+            self.assertRegex(row["name"], "^a\ufffd+(\\[31m)?b$")
+            self.assertEqual(self.server.card(row)["name"], row["name"])
 
     def test_many_nets_are_asked_for_without_their_file(self):
         text = b"# first\n" + SQL * 1000

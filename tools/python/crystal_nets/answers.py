@@ -17,7 +17,7 @@ from .graph import LabelledEdge, Vertex
 from .net import Net
 from .outcome import Outcome
 from .program import reading_report
-from .provenance import BuildingUnit, Component
+from .provenance import BuildingUnit, Component, told_doubts
 from .symbols import rcsr_address, symbols_of
 from .texts.graph_text import vertex_of
 from .texts.net_text import NetReport, nets_of_report
@@ -317,7 +317,7 @@ class Answer:
         told = f" ({self.by}; {self.outcome})" if self.names and not self.accepted else ""
         woven = f", one of {self.copies} interwoven copies" if self.copies > 1 else ""
         advice = f"; {self.advice}" if self.advice and not self.names else ""
-        return f"{self.name or 'net'}: {what}{told}{woven}{advice}"
+        return f"{self.name or 'net'}: {what}{told}{woven}{advice}{told_doubts(self.doubts)}"
 
     def _repr_svg_(self) -> str | None:
         from .drawing import svg_of_answer
@@ -359,7 +359,8 @@ class Answers(Sequence[Answer]):
 
     def __repr__(self) -> str:
         with_key = sum(answer.accepted for answer in self)
-        return f"<Answers: {len(self)} nets, {with_key} with a key>"
+        doubted = sum(bool(answer.doubts) for answer in self)
+        return f"<Answers: {len(self)} nets, {with_key} with a key{f', {doubted} in doubt' if doubted else ''}>"
 
     @property
     def accepted(self) -> Answers:

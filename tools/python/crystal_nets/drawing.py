@@ -61,7 +61,9 @@ def svg_of_answer(answer: Answer) -> str | None:
 
 
 def html_of_net(net: Net) -> str:
-    return f"<div>{html.escape(repr(net))}{_small(svg_or_none(net))}</div>"
+    """What it is, the picture and what is to be known of it."""
+    notes = _table(_notes(net, net.notes))
+    return f"<div>{html.escape(repr(net))}{_small(svg_or_none(net))}{notes}</div>"
 
 
 def html_of_answer(answer: Answer) -> str:
@@ -73,9 +75,29 @@ def html_of_answer(answer: Answer) -> str:
     rows += [("copies", f"one of {answer.copies} interwoven copies")] if answer.copies > 1 else []
     sequences = (answer.small or answer).sequences
     rows += [("sequence", " ".join(map(str, sequence))) for sequence in sorted(set(sequences))]
-    rows += [("note", note) for note in answer.notes]
+    rows += [("what to do", answer.advice), *_notes(answer.net, answer.notes), ("note", answer.naming.note)]
+    return f"<div>{_small(svg_of_answer(answer))}{_table(rows)}</div>"
+
+
+def _notes(net: Net, notes: Sequence[str]) -> list[tuple[str, str]]:
+    """Notes with what they are: doubts and what was left out apart from the rest."""
+    kinds = {**dict.fromkeys(net.left_out, "left out"), **dict.fromkeys(net.doubts, "in doubt")}
+    return [(kinds.get(note, "note"), note) for note in notes]
+
+
+def _table(rows: Sequence[tuple[str, str]]) -> str:
+    """Rows of a word and what belongs to it; nothing where there are none."""
     cells = "".join(f"<tr><th>{name}</th><td>{html.escape(text)}</td></tr>" for name, text in rows if text)
-    return f"<div>{_small(svg_of_answer(answer))}<table>{cells}</table></div>"
+    return f"<table>{cells}</table>" if cells else ""
+
+
+def _told(answer: Answer) -> str:
+    """What is to be known of an answer among others: by what its names are certain, why it has no key, doubts, what was
+    left out."""
+    words = [] if answer.accepted else [str(answer.by), str(answer.outcome), answer.advice]
+    words += [f"one of {answer.copies} interwoven copies"] if answer.copies > 1 else []
+    words += [f"{kind}: {note}" for kind, note in _notes(answer.net, answer.notes) if kind != "note"]
+    return "; ".join(word for word in words if word)
 
 
 def html_of_answers(answers: Sequence[Answer]) -> str:
@@ -83,10 +105,10 @@ def html_of_answers(answers: Sequence[Answer]) -> str:
     rows = []
     for place, answer in enumerate(answers):
         drawn = _small(svg_of_answer(answer), 120) if place < MOST_PICTURES and answer.text else ""
-        told = "; ".join(answer.names) or str(answer.outcome)
-        cells = (html.escape(answer.name), html.escape(told), str(answer.vertices or ""), str(answer.edges or ""), drawn)
+        cells = (html.escape(answer.name), html.escape("; ".join(answer.names)), html.escape(_told(answer)),
+                 str(answer.vertices or ""), str(answer.edges or ""), drawn)
         rows.append("<tr>" + "".join(f"<td>{cell}</td>" for cell in cells) + "</tr>")
-    head = "".join(f"<th>{word}</th>" for word in ("net", "names", "vertices", "edges", ""))
+    head = "".join(f"<th>{word}</th>" for word in ("net", "names", "what is to be known", "vertices", "edges", ""))
     return f"<table><tr>{head}</tr>{''.join(rows)}</table>"
 
 

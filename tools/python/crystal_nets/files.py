@@ -3,10 +3,12 @@
 from __future__ import annotations
 
 import contextlib
+import errno
 import fcntl
 import gzip
 import io
 import os
+import stat
 import sys
 import zlib
 from collections.abc import Callable, Iterator
@@ -21,6 +23,7 @@ if TYPE_CHECKING:
 STANDARD_OUTPUT = "standard output"
 GZIP = b"\x1f\x8b"
 AHEAD = 65_536  # bytes of a file that are read ahead: by these a structure without its ending is told
+NO_FILE = "it is no file, but a pipe, a device or a folder"
 
 
 def checked_path(path: str | os.PathLike[str], fault: type[CrystalNetsError]) -> Path:
@@ -58,6 +61,15 @@ def _is_folder(entry: os.DirEntry[str]) -> bool:
         return entry.is_dir()
     except OSError:
         return False
+
+
+def content_of_file(path: str | os.PathLike[str], most: int = -1) -> bytes:
+    """The content of a file, up to so many bytes where that is no negative number. OSError where it is none: a pipe is
+    not waited for, and a device is not read."""
+    with open(os.open(path, os.O_RDONLY | os.O_NONBLOCK | os.O_CLOEXEC), "rb") as file:
+        if not stat.S_ISREG(os.fstat(file.fileno()).st_mode):
+            raise OSError(errno.EINVAL, NO_FILE, os.fspath(path))
+        return file.read(most)
 
 
 def write_whole(path: Path, content: bytes) -> None:

@@ -57,6 +57,9 @@ class NetMap:
         return told == b"pair 2 verified\n"
 
 
+WHICH = ("first", "second")
+
+
 @dataclass(frozen=True)
 class Meeting:
     """Two nets mapped to one small net, by which they are isomorphic.
@@ -82,6 +85,7 @@ class Sameness:
               small net
     hint      where it is not known: `other by invariants that are not proved`, or why the search for a meeting gave up
     copies    of each net how many nets alike are interwoven in its structure: the answer is on one of each
+    doubts    of each net where another reading of its structure gives another net
 
     It is true as a condition where `same` is True, and raises NotANet where `same` is None. Of nets without a key it is
     never False: that invariants tell them apart is mathematics, and not proved of this code."""
@@ -93,6 +97,7 @@ class Sameness:
     meeting: Meeting | None = None
     hint: str = ""
     copies: tuple[int, int] = (1, 1)
+    doubts: tuple[tuple[str, ...], tuple[str, ...]] = ((), ())
 
     def __repr__(self) -> str:
         word = {True: "same", False: "different", None: f"not known, {self.text}"}[self.same]
@@ -100,9 +105,10 @@ class Sameness:
 
     @property
     def notes(self) -> tuple[str, ...]:
-        """What a reader should know of the answer: that a net is one of several interwoven ones."""
-        return tuple(f"the {which} is one of {copies} interwoven copies, and one is compared"
-                     for which, copies in zip(("first", "second"), self.copies) if copies > 1)
+        """What a reader should know of the answer: that a net is one of several interwoven ones, or in doubt."""
+        woven = [f"the {which} is one of {copies} interwoven copies, and one is compared"
+                 for which, copies in zip(WHICH, self.copies) if copies > 1]
+        return (*woven, *(f"the {which} is in doubt: {doubt}" for which, doubts in zip(WHICH, self.doubts) for doubt in doubts))
 
     def __bool__(self) -> bool:
         if self.same is None:
@@ -133,7 +139,7 @@ def same(one: Any, other: Any, *, timeout: float | None = None, **options: Unpac
     reasons = [str(outcome) for outcome in (first, second) if not outcome.accepted]
     if not reasons:
         raise ProgramFailed("net_tool same gave no map, and both nets have keys")
-    return _with_meeting(Sameness(None, None, (first, second), reasons[0], copies=_copies(nets)), nets)
+    return _with_meeting(_sameness_of(nets, None, None, (first, second), reasons[0]), nets)
 
 
 def _with_meeting(found: Sameness, nets: list[Net]) -> Sameness:
@@ -153,12 +159,14 @@ def _sameness(told: bytes, nets: list[Net]) -> Sameness:
     if not re.fullmatch(r"different|map|long entries=\d+|wide value=-?\d+", word):
         raise ValueError(f"there is no pair {word[:60]!r}")
     read = _map_of(told, found.end(), nets) if word == "map" else None
-    return Sameness(word != "different", read, (ACCEPTED, ACCEPTED), word, copies=_copies(nets))
+    return _sameness_of(nets, word != "different", read, (ACCEPTED, ACCEPTED), word)
 
 
-def _copies(nets: list[Net]) -> tuple[int, int]:
+def _sameness_of(nets: list[Net], is_same: bool | None, read: NetMap | None, outcomes: tuple[Outcome, Outcome],
+                 text: str) -> Sameness:
+    """The answer on two nets, with what a reader should know of them."""
     first, second = nets
-    return first.copies, second.copies
+    return Sameness(is_same, read, outcomes, text, copies=(first.copies, second.copies), doubts=(first.doubts, second.doubts))
 
 
 def _map_of(told: bytes, begin: int, nets: list[Net]) -> NetMap:

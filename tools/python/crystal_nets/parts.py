@@ -12,6 +12,7 @@ from .net import Net
 from .options import StructureOptions
 from .outcome import ACCEPTED, Outcome, outcome_of
 from .program import bounded, reading_report, run
+from .provenance import told_doubts
 from .texts.component_text import Part, parts_of_report
 from .texts.key_graph import TooLong, graph_of_key
 from .texts.net_text import NoReport
@@ -57,7 +58,7 @@ class Components:
 
     def __repr__(self) -> str:
         told = [f"{part.copies} of {'; '.join(part.names) or part.key[:40] or part.outcome}" for part in self.parts]
-        return in_one_line(f"<Components: {', '.join(told) or self.outcome}>")
+        return in_one_line(f"<Components: {', '.join(told) or self.outcome}{told_doubts(self.net.doubts)}>")
 
     @property
     def pieces(self) -> int:

@@ -145,5 +145,11 @@ class Provenance:
         return replace(self, notes=(*before, *self.notes, *after))
 
 
+def told_doubts(doubts: Iterable[str]) -> str:
+    """Doubts at the end of a line; nothing where there are none."""
+    texts = "; ".join(doubts)
+    return f"; in doubt: {texts}" if texts else ""
+
+
 def shorten(text: str, most: int = 100) -> str:
     return text if len(text) <= most else text[:most] + " .."

@@ -15,7 +15,7 @@ from pathlib import Path, PurePath
 from typing import TYPE_CHECKING, Any, Unpack
 
 from .errors import NotANet, PackageMissing, lacking
-from .files import GZIP, checked_path
+from .files import GZIP, checked_path, content_of_file
 from .net import TOO_LONG, Net
 from .other_forms import is_json, is_poscar, is_structure, structure_of_fields, structure_of_json
 from .options import STRUCTURE_PACKAGES, StructureOptions, check_names, checked_options
@@ -86,12 +86,23 @@ def read(source: Any, name: str = "", **options: Unpack[StructureOptions]) -> li
 def _nets_of_text(source: str | bytes | os.PathLike[str], name: str, options: Mapping[str, object]) -> list[Net]:
     """The nets of a text, of a file, or of all files of a folder."""
     if not isinstance(source, bytes) and "\n" not in str(source) and os.path.isdir(source):
-        files = [file for file in sorted(Path(source).iterdir()) if is_known(file.name)]
-        return [net for file in files for net in _nets_of_text(file, "", _options_for(file.name, options))]
+        files = [file for file in sorted(Path(source).iterdir()) if is_known(file.name) and not file.is_dir()]
+        return [net for file in files for net in _nets_found(file, options)]
     content, file = _content_of(source)
     content, named = unpacked(content, name or file)
     nets = _nets_of_content(content, named, options)
-    return [net.of_provenance(net.provenance.read_from(os.fsdecode(source))) for net in nets] if file else nets
+    return _read_from(source, nets) if file else nets
+
+
+def _nets_found(file: Path, options: Mapping[str, object]) -> list[Net]:
+    """The nets of a file of a folder. OSError where it is a pipe, which is not waited for."""
+    content, named = unpacked(content_of_file(file), file.name)
+    return _read_from(file, _nets_of_content(content, named, _options_for(file.name, options)))
+
+
+def _read_from(file: str | bytes | os.PathLike[str], nets: list[Net]) -> list[Net]:
+    """Nets that know their file."""
+    return [net.of_provenance(net.provenance.read_from(os.fsdecode(file))) for net in nets]
 
 
 def _nets_of_content(content: bytes, file: str, options: Mapping[str, object]) -> list[Net]:

@@ -10,8 +10,10 @@ from fractions import Fraction
 
 from testing import PROGRAM, TOOLS, TOP, FolderTest, need_modules, need_program, run
 
-from crystal_nets import (Answer, Archive, Net, NotAnArchive, NotANet, ProgramFailed, components, cover, group,  # noqa: E402
-                          identify, identify_all, identify_each, keys, net_of_key, read, same, svg)
+from crystal_nets import (Answer, Answers, Archive, By, Net, NotAnArchive, NotANet, Outcome, ProgramFailed,  # noqa: E402
+                          components, cover, group, identify, identify_all, identify_each, keys, net_of_key, read, same, svg)
+from crystal_nets.answers import Naming  # noqa: E402
+from crystal_nets.provenance import DOUBT, LEFT_OUT, OTHER, Note  # noqa: E402
 
 DIA = Net([(1, 2, (0, 0, 0)), (1, 2, (1, 0, 0)), (1, 2, (0, 1, 0)), (1, 2, (0, 0, 1))], name="dia")
 PCU = Net([(1, 1, (1, 0, 0)), (1, 1, (0, 1, 0)), (1, 1, (0, 0, 1))], name="pcu")
@@ -387,6 +389,27 @@ class Pictures(AnswerTest):
         self.assertEqual(answer._repr_svg_(), DIA._repr_svg_())
         self.assertIn("<svg", DIA._repr_html_())
         self.assertIn("<svg", identify_all([DIA, PCU], archive=None)._repr_html_())
+
+    def test_nothing_is_shown_without_its_doubts(self):
+        net = DIA.noted(after=[Note(DOUBT, "one <doubt>"), Note(LEFT_OUT, "what is left"), Note(OTHER, "a remark")])
+        answer, plain = identify(net, archive=self.archive), identify(DIA, archive=self.archive)
+        shown = {"net": net._repr_html_(), "answer": answer._repr_html_(), "answers": Answers([plain, answer])._repr_html_()}
+        for what, text in shown.items():
+            self.assertIn("one &lt;doubt&gt;", text, what)
+            self.assertRegex(text, "(?s)in doubt.*left out.*what is left", what)
+            self.assertEqual("a remark" in text, what != "answers")
+        self.assertEqual(str(answer), "dia: dia; in doubt: one <doubt>")
+        self.assertEqual(repr(Answers([plain, answer])), "<Answers: 2 nets, 2 with a key, 1 in doubt>")
+        self.assertEqual(same(PCU, net).notes, ("the second is in doubt: one <doubt>",))
+        self.assertIn("the first is in doubt: one <doubt>", repr(same(net, DIA)))
+        self.assertIn("; in doubt: one <doubt>", repr(components(net, archive=None)))
+
+    def test_names_without_a_key_are_shown_with_what_is_certain_of_them(self):
+        found = Naming(("BEA",), By.UNPROVED_CELL)
+        outcome = Outcome("malformed", 8, "TooManyVertices", text="malformed line=2 8 TooManyVertices")
+        answer = Answer(DIA, outcome, naming=found, names=found.names)
+        text = Answers([answer])._repr_html_()
+        self.assertRegex(text, "BEA.*unproved cell; malformed line=2 8 TooManyVertices")
 
     def test_what_has_no_key_has_words(self):
         net = Net(REFUSED["refused 2 Degenerate"], name="<b>")

@@ -1,6 +1,8 @@
 """Nets from edges, texts and graphs: what is read, and that what is none is told."""
 
+import os
 import pickle
+import signal
 import unittest
 from pathlib import Path
 
@@ -72,6 +74,20 @@ class FromTexts(FolderTest):
         for source in (SQL, SQL.decode(), path, str(path), self.folder):
             self.assertEqual([net.block for net in read(source)], [SQL])
         self.assertEqual(Net.from_cgd(path, name="square").name, "square")
+
+    def test_a_folder_has_files_and_a_pipe_is_not_waited_for(self):
+        (self.folder / "sql.cgd").write_bytes(SQL)
+        (self.folder / "inner.cgd").mkdir()
+        (self.folder / "inner.cgd/back.cgd").symlink_to(self.folder)
+        (self.folder / "back.cgd").symlink_to(".")
+        self.assertEqual([net.provenance.file for net in read(self.folder)], [str(self.folder / "sql.cgd")])
+        os.mkfifo(self.folder / "pipe.cgd")
+        signal.signal(signal.SIGALRM, signal.default_int_handler)
+        self.addCleanup(signal.signal, signal.SIGALRM, signal.SIG_DFL)
+        signal.alarm(20)
+        self.addCleanup(signal.alarm, 0)
+        with self.assertRaisesRegex(OSError, "it is no file, but a pipe.*pipe.cgd"):
+            read(self.folder)
 
     def test_all_archives_are_read_byte_for_byte(self):
         for name in ("common", "zeolites"):

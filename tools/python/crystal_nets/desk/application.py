@@ -10,12 +10,13 @@ from typing import Any
 from flask import Flask, Response, request
 from werkzeug.exceptions import BadRequest, HTTPException
 
+from ..files import content_of_file
 from ..options import CONVENTION_NAMES
 from ..pictures.text import PALETTE
 from ..provenance import Provenance
 from . import questions
 from .connections import Connections
-from .files import FITTING, content_of, shown_name
+from .files import FITTING, shown_name
 from .guard import MOST_BYTES, TOO_LARGE, Guard, Rejected, with_headers
 from .worker import ClientGone, NoAnswer, Workers
 
@@ -86,7 +87,7 @@ def add_given(app: Flask, given: Sequence[Path]) -> None:
         if number >= len(given):
             return told("there is no such file", 404)
         try:
-            content = content_of(given[number], MOST_BYTES + 1)
+            content = content_of_file(given[number], MOST_BYTES + 1)
         except OSError as fault:
             return told(f"it cannot be read: {fault.strerror}", 404)
         return told(TOO_LARGE, 413) if len(content) > MOST_BYTES else Response(content, mimetype="application/octet-stream")
@@ -114,10 +115,10 @@ def add_questions(app: Flask, workers: Workers, connections: Connections) -> Non
         return ask(questions.rows, nets_of_form("nets"))
 
     def card(token: str) -> Response:
-        return ask(questions.card, nets_of_form("net", most=1)[0])
+        return ask(questions.card, net_of_form())
 
     def topology(token: str) -> Response:
-        return ask(questions.topology, nets_of_form("net", most=1)[0])
+        return ask(questions.topology, net_of_form())
 
     def atoms(token: str) -> Response:
         return ask(questions.atoms, *file_of_form(), options_of_form(), text("block").encode())
@@ -175,6 +176,14 @@ def nets_of_form(name: str, most: int = MOST_ROWS) -> list[dict[str, Any]]:
     except (ValueError, TypeError, KeyError, OverflowError, RecursionError):
         raise BadRequest(f"{name} has a net that is not as it was told") from None
     return items
+
+
+def net_of_form() -> dict[str, Any]:
+    """A net that was read, as the page was told of it."""
+    item, = nets_of_form("net", most=1)
+    if "text" in item:
+        raise BadRequest("net is a block that waits to be read")
+    return item
 
 
 def check_net(item: dict[str, Any]) -> None:

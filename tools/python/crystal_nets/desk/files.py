@@ -2,12 +2,9 @@
 
 from __future__ import annotations
 
-import errno
-import os
-import stat
 from dataclasses import dataclass, field
 from io import BytesIO
-from pathlib import Path, PurePosixPath
+from pathlib import PurePosixPath
 from typing import Any
 
 from ..errors import NotANet
@@ -54,14 +51,6 @@ def shown_name(name: str) -> str:
     if len(plain) > LONGEST_NAME:
         plain = stem[:LONGEST_NAME - 10] + dot + ending[:8] if stem else plain[:LONGEST_NAME]
     return plain or "file"
-
-
-def content_of(path: Path, most: int) -> bytes:
-    """The content of a file, up to so many bytes. OSError where it is none: a pipe is not waited for."""
-    with open(os.open(path, os.O_RDONLY | os.O_NONBLOCK | os.O_CLOEXEC), "rb") as file:
-        if not stat.S_ISREG(os.fstat(file.fileno()).st_mode):
-            raise OSError(errno.EINVAL, "it is no file, but a pipe, a device or a folder")
-        return file.read(most)
 
 
 def nets_of_file(name: str, content: bytes, options: dict[str, Any]) -> Found:

@@ -7,6 +7,7 @@ from typing import Any
 
 from ..errors import NotANet, PackageMissing, lacking
 from ..net import Net
+from ..pictures.text import printable
 from ..provenance import Provenance
 from ..texts.net_text import MOST_BYTES as MOST_OF_A_BLOCK
 from .archives import told_shelves
@@ -74,7 +75,7 @@ def _with_net(net: Net, row: dict[str, Any]) -> dict[str, Any]:
 
 def _fields_of(net: Net) -> dict[str, Any]:
     """A net as the page keeps it, and sends it with each question on it."""
-    return {"name": plain(net.name), "refusal": plain(net.refusal), "block": plain(net.block.decode(errors="surrogateescape")),
+    return {"name": printable(net.name), "refusal": plain(net.refusal), "block": plain(net.block.decode(errors="surrogateescape")),
             "provenance": json.loads(plain(json.dumps(net.provenance.to_dict(), ensure_ascii=False)))}
 
 

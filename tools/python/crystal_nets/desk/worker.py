@@ -142,7 +142,7 @@ class Workers:
         if code == -signal.SIGXCPU:
             return self.limits.out_of_time
         if code is not None and code < 0:
-            return f"its process was ended from outside, by {signal.Signals(-code).name}"
+            return f"its process was ended from outside, by {name_of_signal(-code)}"
         return f"its process ended without an answer (status {code})"
 
     def close(self) -> None:
@@ -154,6 +154,20 @@ class Workers:
         last = time.monotonic() + 5
         while self._running and time.monotonic() < last:
             time.sleep(0.02)
+
+
+def name_of_signal(number: int) -> str:
+    """As SIGKILL; those of real time have no names."""
+    return next((known.name for known in signal.Signals if known == number), f"signal {number}")
+
+
+def reason_of_program(fault: ProgramFailed, limits: Limits) -> str:
+    """Why the program gave no answer. What its limits end has a signal of its own, and a status of its own."""
+    if fault.status == -signal.SIGXCPU:
+        return limits.out_of_time
+    if fault.status == OUT_OF_MEMORY:
+        return limits.out_of_memory
+    return f"net_tool was ended by {name_of_signal(-fault.status)}" if fault.status < 0 else str(fault)
 
 
 def is_gone(client: socket.socket | None) -> bool:
@@ -187,7 +201,7 @@ def serve(writer: Connection, limits: Limits, question: Callable[..., Any], argu
     for what, most in ((resource.RLIMIT_CPU, limits.seconds), (resource.RLIMIT_AS, limits.memory),
                        (resource.RLIMIT_CORE, 0)):
         resource.setrlimit(what, (most, most + 5 if what == resource.RLIMIT_CPU else most))
-    answer = json.dumps(answer_to(question, arguments, limits)).encode()
+    answer = text_of_answer(question, arguments, limits)
     with suppress(BrokenPipeError):  # the server is gone
         writer.send_bytes(answer)
 
@@ -199,6 +213,14 @@ def end_with(parent: int) -> None:
     os.killpg(0, signal.SIGKILL)
 
 
+def text_of_answer(question: Callable[..., Any], arguments: tuple, limits: Limits) -> bytes:
+    """The answer as JSON; its text takes memory, too."""
+    try:
+        return json.dumps(answer_to(question, arguments, limits)).encode()
+    except MemoryError:
+        return json.dumps({"reason": limits.out_of_memory}).encode()
+
+
 def answer_to(question: Callable[..., Any], arguments: tuple, limits: Limits) -> Any:
     """What a question gives; or {"reason": why there is no answer}."""
     try:
@@ -206,9 +228,7 @@ def answer_to(question: Callable[..., Any], arguments: tuple, limits: Limits) ->
     except MemoryError:
         return {"reason": limits.out_of_memory}
     except ProgramFailed as fault:
-        if fault.status in (-signal.SIGXCPU, -signal.SIGKILL):
-            return {"reason": limits.out_of_time}
-        return {"reason": limits.out_of_memory if fault.status == OUT_OF_MEMORY else str(fault)}
+        return {"reason": reason_of_program(fault, limits)}
     except CrystalNetsError as reason:
         return {"reason": str(reason)}
     except Exception as fault:  # of the reader, or of a library: the reader of the page gets one line of it

@@ -10,6 +10,7 @@ from .shape import Shape
 # they come again, with a white dot.
 PALETTE = ("#0072B2", "#D55E00", "#009E73", "#CC79A7", "#E69F00", "#56B4E9", "#F0E442", "#404040")
 PAPER = 255.0  # each part of its colour
+TURNING = "\u202a\u202b\u202c\u202d\u202e\u2066\u2067\u2068\u2069"  # Unicode's embeddings, overrides and isolates
 MIST = 0.72  # how far the colours behind are from those in front, on the way to that of the paper
 
 
@@ -25,10 +26,11 @@ def misty(colour: str, depth: float) -> str:
 
 
 def printable(text: bytes | str) -> str:
-    """A name as XML may have it: bytes that are no UTF-8, and control bytes, become a mark."""
+    """A name as XML may have it: bytes that are no UTF-8, and control bytes, become a mark. So do those that turn the
+    direction of the text that follows them."""
     if isinstance(text, bytes):
         text = text.decode(errors="replace")
-    return "".join("\ufffd" if is_no_xml(c) else c for c in text)
+    return "".join("\ufffd" if is_no_xml(c) or c in TURNING else c for c in text)
 
 
 def is_no_xml(c: str) -> bool:

@@ -8,6 +8,7 @@ from pathlib import Path
 from typing import Any
 
 from ..errors import NotANet, PackageMissing
+from ..files import content_of_file
 from ..net import Net
 from ..provenance import DOUBT, DROPPED, LEFT_OUT, OTHER, REFUSED, Note
 from ..reading import unpacked
@@ -27,6 +28,10 @@ class Source:
     path: str   # - is standard input
     label: str  # how notes name it
     stem: str   # what names of nets begin with
+    is_found: bool = False  # in a folder, where a pipe is not waited for
+
+    def content(self) -> bytes:
+        return content_of_file(self.path) if self.is_found else Path(self.path).read_bytes()
 
 
 @dataclass
@@ -165,7 +170,7 @@ def read_and_convert(source: Source, options: Options, stdin: bytes = b"") -> Co
     """The same of a file that is still to be read."""
     done = Conversion(source)
     try:
-        content = stdin if source.path == "-" else Path(source.path).read_bytes()
+        content = stdin if source.path == "-" else source.content()
         content, path = unpacked(content, source.path)
     except OSError as error:
         done.refuse(source.label, f"not readable: {error.strerror}")

@@ -6,6 +6,7 @@ import os
 from collections import Counter
 from collections.abc import Iterable, Iterator
 from pathlib import Path, PurePath
+from typing import NamedTuple
 
 from ..files import walked
 from .conversion import Source
@@ -14,17 +15,24 @@ SUFFIXES = (".cif", ".mcif", ".mmcif", ".vasp", ".poscar", ".contcar", ".xyz", "
 WITHOUT_SUFFIX = ("poscar", "contcar")
 
 
-def files_of(arguments: Iterable[str]) -> Iterator[str]:
+class Given(NamedTuple):
+    """A file that was named, or one that was found in a folder that was."""
+
+    path: str
+    is_found: bool
+
+
+def files_of(arguments: Iterable[str]) -> Iterator[Given]:
     """The files themselves, and of folders all structure files in them and below, by their names. A folder that cannot
     be read stands among them, since it is told as a file that cannot be read."""
     for argument in arguments:
         if argument == "-" or not os.path.isdir(argument):
-            yield argument
+            yield Given(argument, False)
             continue
         away: list[OSError] = []
         for folder, names in walked(argument, away.append):
-            yield from (os.path.join(folder, name) for name in names if is_structure(name))
-        yield from (os.fsdecode(fault.filename) for fault in away)
+            yield from (Given(os.path.join(folder, name), True) for name in names if is_structure(name))
+        yield from (Given(os.fsdecode(fault.filename), True) for fault in away)
 
 
 def is_structure(name: str) -> bool:
@@ -33,11 +41,11 @@ def is_structure(name: str) -> bool:
     return plain.endswith(SUFFIXES) or plain in WITHOUT_SUFFIX
 
 
-def sources_of(files: list[str]) -> list[Source]:
+def sources_of(files: list[Given]) -> list[Source]:
     """The files with their names: those of one stem keep as much of their folders as tells them apart."""
-    paths = [Path("stdin" if file == "-" else file) for file in files]
+    paths = [Path("stdin" if file.path == "-" else file.path) for file in files]
     stems = [_stem(path) for path in paths]
-    return [Source(file, _tail(path, n), _tail(stem, n))
+    return [Source(file.path, _tail(path, n), _tail(stem, n), file.is_found)
             for file, path, stem, n in zip(files, paths, stems, _depths(stems))]
 
 

@@ -4,18 +4,30 @@
 const MOST_FILES = 2000;
 const ZIP = [0x50, 0x4b, 3, 4];  // how a file begins that holds others
 
+const CANNOT_BE_READ = 'it cannot be read';
+
 const tell = text => { element('told').textContent = text; };
 
-// All files of what was dropped; folders are gone through.
+// What is left out stays told, whatever comes after it.
+const warn = text => element('warned').append(make('p', {}, text));
+
+// What is given: a file with its place among the others, and the reason where it is not read.
+const unread = (name, refusal) => ({ file: new File([], name), refusal });
+
+// All files of what was dropped; folders are gone through, as far as the page takes files.
 async function filesOf(transfer) {
   const entries = [...transfer.items].map(item => item.webkitGetAsEntry && item.webkitGetAsEntry());
-  if (!entries.some(entry => entry && entry.isDirectory)) return [...transfer.files];
+  if (!entries.some(entry => entry && entry.isDirectory)) return [...transfer.files].map(file => ({ file }));
   const found = [];
   const left = entries.filter(entry => entry);
-  while (left.length && found.length < MOST_FILES) {
+  while (left.length && found.length <= MOST_FILES) {
     const entry = left.shift();
-    if (entry.isFile) found.push(await new Promise((resolve, reject) => entry.file(resolve, reject)));
-    else left.unshift(...await entriesOf(entry.createReader()));
+    try {
+      if (entry.isFile) found.push({ file: await new Promise((resolve, reject) => entry.file(resolve, reject)) });
+      else left.unshift(...await entriesOf(entry.createReader()));
+    } catch {
+      found.push(unread(entry.name, CANNOT_BE_READ));
+    }
   }
   return found;
 }
@@ -31,13 +43,25 @@ async function entriesOf(reader) {
 }
 
 // Files in their order, and in the place of each ZIP archive what it holds.
-async function take(files) {
-  const given = [...files].slice(0, MOST_FILES);
-  tell(given.length < files.length ? `only the first ${MOST_FILES} files are taken` : '');
+async function take(given) {
+  tell('');
   const found = [];
-  for (const file of given) found.push(...await isZip(file) ? await unzipped(file) : [{ file }]);
+  let at = 0;
+  for (; at < given.length && found.length < MOST_FILES; at += 1) found.push(...await opened(given[at]));
   const some = found.slice(0, MOST_FILES);
   some.forEach(({ file, refusal }) => new Source(file, some.length <= FILES_OPEN, refusal));
+  const left = found[MOST_FILES] || given[at];
+  if (left) warn(`Only the first ${MOST_FILES.toLocaleString('en')} files are taken; ${left.file.name} and those after it are left out.`);
+}
+
+// What is given itself; the files of a ZIP archive; or the reason why it cannot be read.
+async function opened(given) {
+  if (given.refusal) return [given];
+  try {
+    return await isZip(given.file) ? await unzipped(given.file) : [given];
+  } catch {
+    return [unread(given.file.name, CANNOT_BE_READ)];
+  }
 }
 
 async function isZip(file) {
@@ -49,7 +73,8 @@ async function isZip(file) {
 async function unzipped(archive) {
   tell(`${archive.name} is being unpacked`);
   const answer = await ask('unzip', { file: archive });
-  tell(answer.told ? `${archive.name}: ${answer.told}` : '');
+  tell('');
+  if (answer.told) warn(`${archive.name}: ${answer.told}.`);
   if (answer.reason) return [{ file: archive, refusal: answer.reason }];
   return answer.files.map(({ name, content }) =>
     ({ file: new File([Uint8Array.from(atob(content), sign => sign.charCodeAt(0))], name) }));
@@ -79,13 +104,16 @@ function listenToFiles() {
   element('choices').onchange = readAllAgain;
   element('stop').onclick = () => sources.forEach(source => source.stop());
   element('go-on').onclick = () => sources.forEach(source => source.goOn());
-  element('all-away').onclick = () => [...sources].forEach(source => source.takeAway());
+  element('all-away').onclick = () => {
+    [...sources].forEach(source => source.takeAway());
+    element('warned').replaceChildren();
+  };
   element('show-pair').onclick = () => {
     element('pair').scrollIntoView({ block: 'start' });
     element('pair-title').focus({ preventScroll: true });
   };
   element('choose').onchange = event => {
-    take([...event.target.files]).catch(() => tell('What was chosen cannot be read.'));
+    take([...event.target.files].map(file => ({ file }))).catch(() => tell('What was chosen cannot be read.'));
     event.target.value = '';
   };
 }
@@ -105,13 +133,19 @@ async function showArchives() {
 async function showGiven() {
   const names = await answerOf('given', {});
   if (!Array.isArray(names)) return;
-  const files = [];
-  for (const [number, name] of names.entries()) {
+  const given = [];
+  for (const [number, name] of names.entries()) given.push(await givenFile(number, name));
+  await take(given);
+}
+
+// A file that was named at the start, or the reason why it is not there.
+async function givenFile(number, name) {
+  try {
     const content = await fetch(`given/${number}`);
-    if (content.ok) files.push(new File([await content.blob()], name));
-    else tell(`${name}: ${(await content.json()).reason}`);
+    return content.ok ? { file: new File([await content.blob()], name) } : unread(name, (await content.json()).reason);
+  } catch {
+    return unread(name, NO_ANSWER);
   }
-  await take(files);
 }
 
 listenToFiles();

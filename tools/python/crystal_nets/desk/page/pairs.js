@@ -37,7 +37,7 @@ async function showPair() {
   const drawn = await cards;
   if (!isThere()) return;
   keepingPlace(other.rows?.[0], () => element('pair-nets').replaceChildren(...drawn.map((card, k) => make('div', {},
-    make('h3', {}, [one, other][k].title), namesOf(card.names || [], ''), picturesOf(card, [one, other][k].title)))));
+    make('h3', {}, [one, other][k].title), namesOf(card.names || [], ''), beyondOf(card.beyond), picturesOf(card, [one, other][k].title)))));
 }
 
 function verdictOf(answer, one, other) {
@@ -50,6 +50,7 @@ function verdictOf(answer, one, other) {
   });
   for (const entry of [one, other]) {
     if (entry.copies > 1) parts.push(make('p', {}, `${entry.title} is one of ${entry.copies} interwoven copies: one is compared.`));
+    if (entry.doubts?.length) parts.push(textsOf(`${entry.title} is in doubt:`, entry.doubts, 'doubts'));
   }
   if (answer.map) parts.push(...mapOf(answer.map, one, other));
   (answer.meeting || []).forEach((text, k) => {

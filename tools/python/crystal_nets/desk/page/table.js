@@ -5,15 +5,19 @@ const ROWS_AT_ONCE = 100;
 const PAUSE = 120;  // milliseconds between two paintings of the table
 const collator = new Intl.Collator('en', { numeric: true, sensitivity: 'base' });
 const namesText = entry => (entry.names || []).map(({ name }) => name).join('; ');
-const toldText = entry => entry.why || (entry.doubts?.length ? `in doubt: ${entry.doubts.join('; ')}` : '') ||
-  { waiting: entry.source.isReading ? 'is being read' : 'waits', stopped: 'stopped' }[entry.state] || (entry.notes || []).join('; ');
+const stateText = entry => ({ waiting: entry.source.isReading ? 'is being read' : 'waits', stopped: 'stopped' })[entry.state];
+const listText = (word, texts) => texts?.length ? `${word}${texts.join('; ')}` : '';
+const toldText = entry => [entry.why, listText('in doubt: ', entry.doubts), listText('left out: ', entry.left_out), stateText(entry),
+  listText('', entry.notes)].filter(Boolean).join(' | ');
+// What is certain of the names of a net without a key stands beside them.
+const certainText = entry => `${namesText(entry)}${entry.names?.length && entry.by ? ` (${entry.by})` : ''}`;
 const sizeText = entry => entry.key ? entry.classes : entry.vertices || '';
 
 // The columns: what they are called, what is shown, and what they are sorted by where that is another thing.
 const COLUMNS = [
   { id: 'name', title: 'net', text: entry => entry.title },
   { id: 'file', title: 'file', text: entry => entry.source.file.name },
-  { id: 'names', title: 'names', text: namesText },
+  { id: 'names', title: 'names', text: certainText },
   { id: 'degrees', title: 'connected', text: entry => (entry.degrees || []).join(', ') },
   { id: 'size', title: 'vertices', text: sizeText },
   { id: 'dimension', title: 'dimension', text: entry => entry.dimension || '' },
@@ -223,7 +227,18 @@ function listenToTable() {
   };
   element('save-table').onclick = () => save('nets', '.csv', tableText(shown), 'text/csv');
   element('save-all').onclick = () => saveAll(shown);
-  element('save-blocks').onclick = () => save('nets', '.cgd', shown.map(entry => entry.block || '').join(''));
+  element('save-blocks').onclick = () => {
+    tell(unreadText(shown));
+    save('nets', '.cgd', shown.map(entry => entry.block || '').join(''));
+  };
+}
+
+const isKnown = entry => entry.state === 'known' || entry.state === 'failed';
+
+// What is told where nets that are not read yet are not saved.
+function unreadText(entries) {
+  const left = entries.filter(entry => !isKnown(entry)).length;
+  return left ? `${count(left, 'net is', 'nets are')} not read yet, and not among those that are saved` : '';
 }
 
 // How much of the work is done, and what can be done about it.
@@ -235,10 +250,10 @@ function showProgress() {
   element('done').textContent = `${done.toLocaleString('en')} of ${count(total, 'net', 'nets')}` +
     (files ? `, ${count(files, 'file is', 'files are')} to be read` : '');
   element('stopped').hidden = !sources.some(source => source.isStopped);
-  const nets = sources.flatMap(source => source.entries).filter(entry => entry.key || entry.block);
-  const without = nets.filter(entry => !entry.key).length;
+  const all = sources.flatMap(source => source.entries), nets = all.filter(entry => entry.key || entry.block);
+  const without = nets.filter(entry => !entry.key).length, unread = all.filter(entry => isKnown(entry) && !entry.block).length;
   element('counts').textContent = `${count(nets.length, 'net', 'nets')}${without ? `, ${without} without a key` : ''}` +
-    `${shown.length < nets.length ? `, ${shown.length} shown` : ''}`;
+    `${unread ? `, ${unread} not read` : ''}${shown.length < all.length ? `, ${shown.length} shown` : ''}`;
   const more = sources.filter(source => source.total > source.entries.length);
   element('close-all').hidden = !sources.some(source => source.entries.some(entry => entry.isOpen));
   element('more').hidden = !more.length;
@@ -255,7 +270,7 @@ function tableText(entries) {
   const joined = list => (list || []).join('; ');
   const rows = entries.map(entry => [entry.source.file.name, entry.title, namesText(entry), entry.by, joined(entry.degrees),
     entry.dimension, entry.vertices, entry.edges, entry.classes, entry.copies, entry.convention, entry.key, joined(entry.sequences),
-    joined(entry.doubts), joined(entry.left_out), joined(entry.components), joined(entry.notes), entry.why || (entry.state === 'known' ? '' : toldText(entry))]);
+    joined(entry.doubts), joined(entry.left_out), joined(entry.components), joined(entry.notes), entry.why || stateText(entry)]);
   const heads = ['file', 'net', 'names', 'by', 'connected', 'dimension', 'vertices', 'edges', 'classes', 'copies', 'convention',
     'key', 'sequences', 'doubts', 'left_out', 'components', 'notes', 'reason'];
   return [heads, ...rows].map(row => `${row.map(quoted).join(',')}\r\n`).join('');

@@ -2,6 +2,8 @@
 // What is asked of the server: some questions at a time, in their order.
 
 const MOST_AT_ONCE = 4;  // requests; the others wait
+const STOPPED = 'it was stopped, or taken away';
+const NO_ANSWER = 'net_desk does not answer. Look whether it runs yet in its terminal, and start it again';
 const waiting = [];
 let running = 0;
 
@@ -33,12 +35,22 @@ function ask(path, fields, signal) {
 }
 
 async function answerOf(path, request) {
-  if (request.signal?.aborted) return { reason: 'it was taken away' };
+  if (request.signal?.aborted) return { reason: STOPPED };
   try {
     return await (await fetch(path, request)).json();
   } catch {
-    return { reason: request.signal?.aborted ? 'it was taken away'
-      : 'net_desk does not answer. Look whether it runs yet in its terminal, and start it again.' };
+    if (request.signal?.aborted) return { reason: STOPPED };
+    return { reason: await isThere(request.body?.get('file')) ? NO_ANSWER : 'the file cannot be read, or was changed since it was given' };
+  }
+}
+
+// Whether a file can be read yet; what is no file can.
+async function isThere(file) {
+  try {
+    await file?.slice(0, 1).arrayBuffer();
+    return true;
+  } catch {
+    return false;
   }
 }
 

@@ -45,27 +45,34 @@ function zipOf(files) {
 
 let saving = null;  // what ends the saving that goes on
 
-// Saves all nets that are shown. What is not drawn yet is asked for, one net after another; the same button stops it.
+// Saves all nets that are shown. What is not drawn yet is asked for, one net after another; the same button stops it. What
+// is not saved is told.
 async function saveAll(entries) {
   if (saving) {
     saving.abort();
     return;
   }
   const { signal } = saving = new AbortController();
-  const nets = entries.filter(entry => entry.block).slice(0, MOST_SAVED), taken = new Map(), files = [['nets.csv', tableText(entries)]];
+  const all = entries.filter(entry => entry.block), nets = all.slice(0, MOST_SAVED), taken = new Map();
+  const files = [['nets.csv', tableText(entries)]];
   element('save-all').textContent = 'stop saving';
   const left = nets.entries();
+  let bare = 0;
   const work = async () => {
     for (const [place, entry] of left) {
       if (signal.aborted) return;
       tell(`${place} of ${count(nets.length, 'net', 'nets')} are ready to be saved`);
-      files.push(...await filesOfNet(entry, stemOf(entry.title, taken), files.length < MOST_DRAWN));
+      const found = await filesOfNet(entry, stemOf(entry.title, taken), files.length < MOST_DRAWN);
+      bare += found.length === 1;
+      files.push(...found);
     }
   };
   await Promise.all(Array.from({ length: MOST_AT_ONCE }, work));
   element('save-all').textContent = 'Save all (ZIP)';
   saving = null;
-  tell(signal.aborted ? 'nothing was saved' : `${count(nets.length, 'net was', 'nets were')} saved`);
+  tell(signal.aborted ? 'nothing was saved' : [`${count(nets.length, 'net was', 'nets were')} saved`,
+    bare && `${bare} of them without a report and a picture`, all.length > nets.length && `${all.length - nets.length} are too many for a ZIP archive`,
+    unreadText(entries)].filter(Boolean).join('; '));
   if (!signal.aborted) save('nets', '.zip', new Blob(zipOf(files)), 'application/zip');
 }
 
@@ -79,9 +86,14 @@ async function filesOfNet(entry, stem, isDrawn) {
   return found;
 }
 
-// A name of a file, which no other net has.
+// A name of a file, which no other net has, also where capital letters are no others.
 function stemOf(title, taken) {
-  const stem = plainName(title), times = (taken.get(stem) || 0) + 1;
-  taken.set(stem, times);
-  return times > 1 ? `${stem}-${times}` : stem;
+  const plain = plainName(title), first = plain.toLowerCase();
+  let stem, times = taken.get(first) || 0;
+  do {
+    times += 1;
+    stem = times > 1 ? `${plain}-${times}` : plain;
+  } while (taken.has(stem.toLowerCase()));
+  taken.set(stem.toLowerCase(), 1).set(first, times);
+  return stem;
 }
