@@ -15,7 +15,7 @@ from ..files import write_whole
 from ..graph import QuotientGraph
 from ..net import Net
 from ..texts.graph_text import text_of_graph, written_name
-from .certificate import ReadNet, as_read, certificate, is_read
+from .certificate import as_read, certificate, is_read
 from .placed import NotFound, PlacedNet
 from .primitive import primitive_net
 

@@ -2,7 +2,7 @@
 
 from __future__ import annotations
 
-from collections import Counter, defaultdict
+from collections import Counter
 
 from ...graph import QuotientGraph
 from ...provenance import BuildingUnit
