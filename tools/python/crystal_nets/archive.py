@@ -11,7 +11,7 @@ from importlib.resources import files
 from pathlib import Path
 
 from .errors import NotAnArchive, NotANet, ProgramFailed
-from .files import checked_path, write_whole
+from .files import checked_path, content_of_file, write_whole
 from .net import Net
 from .program import bounded, run
 from .symbols import symbol_of
@@ -77,7 +77,7 @@ class Archive:
         """The archives beside this package, and those of the user in `net_tool/archives` under XDG_DATA_HOME, which is
         ~/.local/share where it is not set. They are loaded once."""
         with _loading:  # threads that ask at the same time wait for the one that loads them
-            return _loaded(tuple(map(str, default_files())))
+            return _loaded(tuple(map(str, _that_are_files(default_files()))))
 
     @classmethod
     @bounded
@@ -174,11 +174,18 @@ def files_of(paths: Iterable[str | os.PathLike[str]]) -> list[Path]:
     """The archives of files and folders. NotAnArchive where a folder has none."""
     files: list[Path] = []
     for path in (checked_path(path, NotAnArchive) for path in paths):
-        found = _archives_in(path) if path.is_dir() else [path]
+        found = _that_are_files(_archives_in(path)) if path.is_dir() else [path]
         if not found:
             raise NotAnArchive(f"{path} has no archive")
         files += found
     return files
+
+
+def _that_are_files(found: list[Path]) -> list[Path]:
+    """The archives of folders. OSError where one is a pipe, which is not waited for, or cannot be read."""
+    for path in found:
+        content_of_file(path, 0)
+    return found
 
 
 def default_files() -> list[Path]:

@@ -88,6 +88,9 @@ class FromTexts(FolderTest):
         self.addCleanup(signal.alarm, 0)
         with self.assertRaisesRegex(OSError, "it is no file, but a pipe.*pipe.cgd"):
             read(self.folder)
+        os.mkfifo(self.folder / "pipe.archive")
+        with self.assertRaisesRegex(OSError, "it is no file, but a pipe.*pipe.archive"):
+            Archive.load(self.folder)
 
     def test_all_archives_are_read_byte_for_byte(self):
         for name in ("common", "zeolites"):

@@ -9,6 +9,7 @@ from pathlib import Path
 
 from ..archive import Archive, default_files
 from ..errors import CrystalNetsError
+from ..files import content_of_file
 
 
 @dataclass(frozen=True)
@@ -28,6 +29,7 @@ def shelves() -> tuple[Shelf, ...]:
 
 def _shelf(path: Path) -> Shelf:
     try:
+        content_of_file(path, 0)  # a pipe is told, and not waited for
         return Shelf(path.stem, Archive.load(path))
     except (CrystalNetsError, OSError) as reason:
         return Shelf(path.stem, None, str(reason))
