@@ -102,6 +102,7 @@ class Options(unittest.TestCase):
 
 
 CUPRITE = """data_cuprite
+_symmetry_space_group_name_H-M 'P 1'
 _cell_length_a 4.27
 _cell_length_b 4.27
 _cell_length_c 4.27
