@@ -1,7 +1,6 @@
-use Rattle.std.proofs.Common.{◌≡◌, List, ℕ, sym, subst}
+use Rattle.std.proofs.Common.{◌≡◌, ℕ, sym, subst}
 use Rattle.periodic_net.specs.{Graph.Graph, Graph.IsGraph, Maps.BareIso, Maps.Iso}
 use Rattle.key_theory.{specs.Key.IsKeyOf, proofs.CallerLemmas.keys_decide, proofs.CallerLemmas.keys_decide_bare}
-use Rattle.archive_text.specs.Lookups.{names_with}
 use Rattle.net_archive.{specs.Archives.ArchiveView, specs.Deciding.AreNamesBy, proofs.IsoGroups.names_found}
 use Rattle.net_archive.proofs.archive.Archive.lookup.Goals as goal
 
