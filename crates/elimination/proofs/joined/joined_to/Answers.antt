@@ -1,7 +1,8 @@
--- Of `joined_to`: the loop over `i`; the clauses `below` and `values`.
-use Rattle.std.proofs.Common.{rules, ◌≡◌, ◌+◌, ◌-◌, ◌∙◌, get_or, arith, ap, subst}
-use Rattle.std.specs.Global.{Vec}
-use Rattle.elimination.{specs.Lines.AreJoinedVertices, proofs.Loops.value_at, proofs.Loops.joined_none, proofs.Skipped.has_trans}
+-- Of `joined_to`: the loop over `i`; what it ensures.
+use Rattle.std.proofs.Common.{rules, ◌≡◌, ◌+◌, ◌-◌, ◌<◌, ◌∙◌, get_or, arith, ap, subst}
+use Rattle.std.specs.{Global.Vec, List.All}
+use Rattle.elimination.{specs.Lines.AreJoinedVertices, proofs.Firsts.handed_on, proofs.Loops.value_at, proofs.Loops.joined_none}
+use Rattle.elimination.proofs.Skipped.{has_trans}
 use Rattle.elimination.proofs.joined.joined_to.Goals as goal
 
 pub loop-i-init : goal.loop-i-init
@@ -28,11 +29,22 @@ loop-i-preserved g c =
           (has_trans has (s.has i k (omega (arith, below)) (omega arith) (λ f. omega (arith, below, f))));
     }
 
-pub returns-clause-below : goal.returns-clause-below
-returns-clause-below g c = omega arith
+pub returns-in_err-joined : goal.returns-in_err-joined
+returns-in_err-joined g c =
+    let told = c.from_residual.ensures.1 in
+    record { below = handed_on _ _ _ _ told tt; rising = handed_on _ _ _ _ told tt; values = λ v w s. handed_on _ _ _ _ told tt }
 
-pub returns-clause-values : goal.returns-clause-values
-returns-clause-values g c = λ v w s.
-    let n = g.N.Exact in let k = c.args.k in
+pub returns-in_err-push_joined : goal.returns-in_err-push_joined
+returns-in_err-push_joined g c =
+    let told = c.from_residual-in_err-push_joined.ensures.1 in
+    record { below = handed_on _ _ _ _ told tt; rising = handed_on _ _ _ _ told tt; values = λ v w s. handed_on _ _ _ _ told tt }
+
+pub returns : goal.returns
+returns g c =
+    let n = g.N.Exact in let k = c.args.k in let joined = c.loop-i.joined.items in
     let done : c.loop-i.i ≡ k = omega (arith, c.loop-i.auto.i-end, c.loop-i-test.false) in
-    subst (λ i. AreJoinedVertices n.modulus n.value c.loop-i.joined.items v 0 i k) done (c.loop-i.invariant.done v w s)
+    record {
+      below = subst (λ i. All (λ x. x.place < i) joined) done c.loop-i.invariant.below;
+      rising = c.loop-i.invariant.rising;
+      values = λ v w s. subst (λ i. AreJoinedVertices n.modulus n.value joined v 0 i k) done (c.loop-i.invariant.done v w s);
+    }
