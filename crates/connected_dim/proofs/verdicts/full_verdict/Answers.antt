@@ -1,4 +1,4 @@
-use Rattle.std.proofs.Common.{ℤ, ◌≤ℤ◌, pos, refl, sym, subst, ◌∙◌, arith}
+use Rattle.std.proofs.Common.{ℤ, ◌≤ℤ◌, lit<, pos, refl, sym, subst, ◌∙◌, arith}
 use Rattle.std.proofs.lemmas.Int.{ints}
 use Rattle.vecdim.specs.Stairs.{HasStairShape}
 use Rattle.connected_dim.{specs.Sparse.sparse_colouring, proofs.Splits.sparse_refusal, proofs.Splits.sparse_from_lattice, proofs.Generated.whole_connected}
@@ -23,3 +23,7 @@ returns-in_ok-sparse_split-in-Some g c =
     c.in_ok-sparse_split-in-Some.ensures.split
     (sparse_from_lattice G found S c.in-Some.d.q c.in-Some.d.c graph c.requires.walks c.requires.all c.closed_lattice-s.ensures stair
     (one_of_two c.in-Some.d.q c.in-Some.ensures.above) c.in-Some.ensures.dual)
+
+pub sparse_split-requires : goal.sparse_split-requires
+sparse_split-requires g c =
+    let e = c.in-Some.ensures in (lit< tt, (one_of_two c.in-Some.d.q e.above, (e.small, (e.within, c.requires.walks.within))))
