@@ -10,12 +10,15 @@ returns-clause-extent g c =
 
 pub returns-in_err-farthest : goal.returns-in_err-farthest
 returns-in_err-farthest g c =
-    let told = err_from_is_err_and c.from_residual.result c.from_residual.ensures.1 in record { extent = rw told.1 tt; narrow = rw told.1 tt }
+    let told = err_from_is_err_and c.from_residual.result c.from_residual.ensures.1 in
+    record { extent = rw told.1 tt; narrow = rw told.1 tt }
 
 pub returns-in_err-farthest-2 : goal.returns-in_err-farthest-2
 returns-in_err-farthest-2 g c =
-    let told = err_from_is_err_and c.from_residual-in_err-farthest-2.result c.from_residual-in_err-farthest-2.ensures.1 in record { extent = rw told.1 tt; narrow = rw told.1 tt }
+    let told = err_from_is_err_and c.from_residual-in_err-farthest-2.result c.from_residual-in_err-farthest-2.ensures.1 in
+    record { extent = rw told.1 tt; narrow = rw told.1 tt }
 
 pub returns-in_err-farthest-3 : goal.returns-in_err-farthest-3
 returns-in_err-farthest-3 g c =
-    let told = err_from_is_err_and c.from_residual-in_err-farthest-3.result c.from_residual-in_err-farthest-3.ensures.1 in record { extent = rw told.1 tt; narrow = rw told.1 tt }
+    let told = err_from_is_err_and c.from_residual-in_err-farthest-3.result c.from_residual-in_err-farthest-3.ensures.1 in
+    record { extent = rw told.1 tt; narrow = rw told.1 tt }
