@@ -1,6 +1,8 @@
--- What fits in 128 bits: products of the parts of vectors, numbers in a box, and what a division by rows takes.
-use Rattle.std.proofs.Common.{ℤ, ◌≤◌, ◌^◌, ◌*ℤ◌, arith, FitsSigned, ◌≡◌, ◌+◌, ◌*◌, ◌<◌, ◌≤ℤ◌, ◌<ℤ◌, pos, ◌-ℤ◌, ℕ, ◌+ℤ◌}
+-- What fits in 128 bits: products of the parts of vectors, numbers in a box, and what a division by rows takes. What a division with a rest gives.
+use Rattle.std.proofs.Common.{ℤ, ◌≤◌, ◌^◌, ◌*ℤ◌, ◌∙◌, ap, arith, sym, FitsSigned, ◌≡◌, ◌+◌, ◌*◌, ◌<◌, ◌≤ℤ◌, ◌<ℤ◌, pos, ◌-ℤ◌, ℕ, ◌+ℤ◌}
 use Rattle.std.proofs.lemmas.Int.{ints, unsigned_abs-mul, fits_signed_from_abs}
+use Rattle.std.specs.Int.{int_div_euclid, int_rem_euclid}
+use Rattle.integers.proofs.numbers.{Division.euclid_sum, Division.euclid_rest, Ring.ring, Ring.linear}
 use Rattle.std.{specs.Int.RustNames.unsigned_abs, specs.Int.w128, proofs.lemmas.Nat.mul-le, proofs.Math.Nat.mul-le-mul_left, proofs.Math.Nat.le_trans}
 use Rattle.integers.proofs.vectors.Bounds.{bounded_product, fits_from_bound, abs_difference, bounded_difference}
 use Rattle.integers.specs.Vectors.{Vector, vector, IsWithin}
@@ -193,3 +195,30 @@ pub divided_is : {S : Stairs} {v q r : Vector} → (pos 0 ≤ℤ r.x) × (r.x <�
     → (pos 0 ≤ℤ r.y) × (r.y <ℤ S.second_y) × (v.y -ℤ S.first_y *ℤ q.x ≡ r.y +ℤ S.second_y *ℤ q.y)
     → (pos 0 ≤ℤ r.z) × (r.z <ℤ S.third_z) × ((v.z -ℤ S.first_z *ℤ q.x) -ℤ S.second_z *ℤ q.y ≡ r.z +ℤ S.third_z *ℤ q.z) → HasRemainder S v q r
 divided_is x y z = record { low = (x.0, y.0, z.0); high = (x.1, y.1, z.1); x = x.2; y = y.2; z = z.2 }
+
+-- what a division of a number that is not negative by a positive one gives
+pub record IsEuclid (a b q r : ℤ) : Type 0 where
+  pub from : pos 0 ≤ℤ q
+  pub to : q ≤ℤ a
+  pub rest_from : pos 0 ≤ℤ r
+  pub rest_to : r <ℤ b
+  pub rest : r ≡ a -ℤ q *ℤ b
+
+-- the quotient of a number that is not negative is from 0 to that number
+euclid_within : (a b : ℤ) → pos 0 ≤ℤ a → pos 0 <ℤ b → (pos 0 ≤ℤ int_div_euclid a b) × (int_div_euclid a b ≤ℤ a)
+euclid_within a b h i = grind arith
+
+-- what the code divides
+pub euclid_is : {a b q r : ℤ} → pos 0 ≤ℤ a → pos 0 <ℤ b → q ≡ int_div_euclid a b → r ≡ int_rem_euclid a b → IsEuclid a b q r
+euclid_is {a} {b} {q} {r} h i e f =
+    let w = euclid_within a b h i in let s = euclid_rest a b i in
+    record {
+      from = rw e w.0;
+      to = rw e w.1;
+      rest_from = rw f s.0;
+      rest_to = rw f s.1;
+      rest = f ∙ moved a b (int_div_euclid a b) (int_rem_euclid a b) (euclid_sum a b i) ∙ ap (λ t. a -ℤ t *ℤ b) (sym e);
+    }
+  where
+    moved : (a b q r : ℤ) → a ≡ r +ℤ b *ℤ q → r ≡ a -ℤ q *ℤ b
+    moved a b q r e = simp ring (omega (arith, linear, e))

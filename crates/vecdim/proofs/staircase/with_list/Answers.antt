@@ -1,5 +1,5 @@
 -- Of `with_list`: invariants.
-use Rattle.std.proofs.Common.{rules, ◌≡◌, [], ◌∷◌, pos, sym, to_z, ◌∙◌}
+use Rattle.std.proofs.Common.{◌≡◌, [], ◌∷◌, pos, sym, to_z, ◌∙◌}
 use Rattle.std.{proofs.lemmas.Int.to_z-of_z, specs.Prelude.cond, specs.Prelude.◌==◌, specs.Int.w128}
 use Rattle.integers.specs.Vectors.{vector}
 use Rattle.vecdim.proofs.Boxes.{boxed_fits, boxed_first, boxed_second, boxed_third, first_small, second_small}
@@ -7,10 +7,14 @@ use Rattle.vecdim.proofs.{Starting.flat_last, Starting.full_last, staircase.with
 use Rattle.vecdim.proofs.staircase.with_list.Goals as goal
 
 pub invariant_of-result : goal.invariant_of-result
-invariant_of-result g c = let w = first_small c.requires.kept in (search rules, λ e. search rules)
+invariant_of-result g c =
+    let k = c.requires.kept in let f = boxed_fits k.m_to (boxed_first k) in
+    let fx = f.x in let fy = f.y in let fz = f.z in simp to_z-of_z (first_small k, λ e. (c.requires.flat e).first_z)
 
 pub invariant_of-result-2 : goal.invariant_of-result-2
-invariant_of-result-2 g c = let w = second_small c.requires.kept in (search rules, λ e. search rules)
+invariant_of-result-2 g c =
+    let k = c.requires.kept in let s = boxed_fits k.m_to (boxed_second k) in
+    let fy = s.x in let fz = s.y in simp to_z-of_z (second_small k, λ e. (c.requires.flat e).second_z)
 
 pub invariant_of-result-4 : goal.invariant_of-result-4
 invariant_of-result-4 g c =
