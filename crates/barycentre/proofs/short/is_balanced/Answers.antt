@@ -1,13 +1,24 @@
--- Of `is_balanced`: the loop over `arc`; the clauses `within` and `balanced`; what `of_triple` and `plus` require.
-use Rattle.std.proofs.Common.{◌≡◌, ◌∙◌, ◌+◌, ◌*◌, ◌^◌, arith, sym, subst, refl}
+-- Of `is_balanced`: the loop over `arc`; what it ensures; what `vector_of`, `of_triple` and `plus` require.
+use Rattle.std.proofs.Common.{◌≡◌, ◌∙◌, ◌+◌, ◌*◌, ◌^◌, IsTrue, false, arith, lit<, sym, subst, refl}
 use Rattle.std.proofs.lemmas.Int.{to_z-of_z}
 use Rattle.integers.{specs.Vectors.IsWithin, proofs.vectors.Bounds.wider}
 use Rattle.periodic_net.specs.{Limits.most_units, Placement.arc_vector}
-use Rattle.quotient_graph.specs.PlacedNets.{placement_of}
+use Rattle.quotient_graph.specs.{PlacedNets.placement_of, Stars.IsArcFrom}
 use Rattle.elimination.proofs.CallerLemmas.{few_arcs, near_step}
 use Rattle.barycentre.specs.Limits.{AreWithinTo}
 use Rattle.barycentre.proofs.Normal.{sum_step, sum_whole, within_more, within_all}
 use Rattle.barycentre.proofs.short.is_balanced.Goals as goal
+
+never : IsTrue false → ⊥
+never e = cc
+
+pub vector_of-requires : goal.vector_of-requires
+vector_of-requires g c =
+    let rd = c.ranges.d0 in let G = c.args.g.now in let u = c.args.u in let a = c.arc-item.result in
+    let f = subst (IsArcFrom G u) (sym c.arc-item.is) (c.arcs-arc-items.ensures.each c.loop-arc.arc-index a c.loop-arc-test.true) in
+    let v = c.requires.vertex in let n = c.requires.count in
+    (lit< tt, ((omega (arith, f.from, v.0), omega (arith, f.from, v.1, n)),
+    ((f.to.0, omega (arith, f.to.1, n)), (f.shift, (simp to_z-of_z c.requires.positive, simp to_z-of_z c.requires.reach)))))
 
 pub of_triple-step-requires : goal.of_triple-step-requires
 of_triple-step-requires g c =
@@ -18,6 +29,12 @@ plus-sum-requires-clause-left g c =
     let few = few_arcs c.args.g.now c.args.u c.arcs-arc-items.result.now c.recall.ensures.small c.arcs-arc-items.ensures.star in
     let below = c.loop-arc-test.true in
     wider (most_units * c.loop-arc.arc-index) (2 ^ 61) (omega (arith, few, below)) c.loop-arc.sum c.loop-arc.invariant.near
+
+pub plus-sum-requires-clause-right : goal.plus-sum-requires-clause-right
+plus-sum-requires-clause-right g c = wider most_units (2 ^ 61) (omega arith) c.of_triple-step.result (c.if-not-is_within.ensures.0 refl)
+
+pub returns-then-not-is_within : goal.returns-then-not-is_within
+returns-then-not-is_within g c = record { within = λ t. absurd (never t); balanced = λ t. absurd (never t) }
 
 pub loop-arc-preserved : goal.loop-arc-preserved
 loop-arc-preserved g c =
