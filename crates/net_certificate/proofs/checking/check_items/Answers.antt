@@ -1,5 +1,7 @@
--- Of `check_items`: the loop over `alloc`; what it ensures; what `push_result` requires. `item_read`, `less` and `counted` are what they share.
-use Rattle.std.proofs.Common.{◌≡◌, ◌<◌, ◌+◌, ℕ, List, Bool, length, sym, ap, ◌∙◌, arith}
+-- Of `check_items`: the loop over `alloc`; what it ensures; what `push_result` requires; that numbers fit. `item_read`, `less` and `counted` are what they
+-- share.
+use Rattle.std.proofs.Common.{◌≡◌, ◌<◌, ◌+◌, ℕ, List, [], Bool, length, refl, sym, ap, ◌∙◌, arith}
+use Rattle.std.proofs.lemmas.Result.{err_from_is_err_and}
 use Rattle.quotient_graph.specs.AnyGraphs.{graph_view}
 use Rattle.line_text.{specs.Faults.IfBadLine, proofs.CallerLemmas.handed_on}
 use Rattle.net_certificate.specs.Reading.{IsBegun, IsIn, HasBadLine}
@@ -34,6 +36,28 @@ counted c =
       | else-branch w ↦ w.refused-is ∙ plus_none c.loop-alloc.refused ∙ ap more (sym w.if-branch.false)
     ] in
     added ∙ ap more c.in_ok-push_result.ensures.refused_is
+
+pub loop-alloc-init : goal.loop-alloc-init
+loop-alloc-init c = (
+  record {
+    items = [];
+    at = λ whole is. is;
+    tells = record { verdicts = []; are = tt; text_is = c.new-text.ensures.items; refused_is = refl };
+    number = refl;
+    few = omega arith;
+  },
+  omega (arith, c.requires.few),
+)
+
+pub overflow_add-k : goal.overflow_add-k
+overflow_add-k c = omega (arith, c.loop-alloc.invariant.1)
+
+pub overflow_add-refused : goal.overflow_add-refused
+overflow_add-refused c = let few = c.loop-alloc.invariant.0.few in omega (arith, few, c.loop-alloc.invariant.1)
+
+pub returns-in_err-push_result : goal.returns-in_err-push_result
+returns-in_err-push_result c = λ text is.
+    let told = err_from_is_err_and c.from_residual-in_err-push_result.result c.from_residual-in_err-push_result.ensures.1 in rw (told.1, told.2) tt
 
 pub returns-in_err-item : goal.returns-in_err-item
 returns-in_err-item c = λ text is.

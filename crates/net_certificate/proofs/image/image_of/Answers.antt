@@ -1,8 +1,8 @@
 -- Of `image_of`: what it ensures; what `place_of` and `vertex_standing` require. `found` and `value` are what they share.
-use Rattle.std.proofs.Common.{◌≡◌, ◌-◌, lit<, sym, subst, ap, ◌∙◌}
-use Rattle.integers.specs.Vectors.{IsWithin}
+use Rattle.std.proofs.Common.{◌≡◌, ◌-◌, ℕ, lit<, sym, subst, ap, ◌∙◌}
+use Rattle.integers.specs.{Bases.base_sum, Vectors.IsWithin, Vectors.minus, Vectors.plus}
 use Rattle.periodic_net.specs.Graph.{IsQuotientVertex, Vertex, vertex}
-use Rattle.periodic_net.specs.{Limits.most_vertices, Placement.position}
+use Rattle.periodic_net.specs.{Limits.most_vertices, Placement.base, Placement.position}
 use Rattle.quotient_graph.specs.PlacedNets.{PlacedNet}
 use Rattle.map_check.specs.Conditions.{most_period}
 use Rattle.standard_map.{specs.Ends.IsEnd, specs.Ends.IsNear, specs.Standing.StandsSomewhere, specs.Turns.end_over, proofs.CallerLemmas.found_end}
@@ -21,7 +21,12 @@ found g c =
 -- where the image stands
 value : (g : Over) (c : After-place_of-place g)
     → c.place_of-place.result ≡ image_place c.args.here.now c.args.there.now c.requires.one_key c.end_of-end.result c.args.cells.now c.args.w.now
-value g c = cc
+value g c =
+    let C = c.args.cells.now in let e = c.end_of-end.result in let place = c.place_of-place in
+    place.ensures.value
+    ∙ ap (λ (n : PlacedNet). plus (plus (base n.placement c.origin.result) e.at) (base_sum C (minus c.w.inside.cell e.shift))) c.placed.ensures.net
+    ∙ ap (λ (u : ℕ). plus (plus (base c.args.there.now.net.placement u) e.at) (base_sum C (minus c.w.inside.cell e.shift))) c.origin.ensures
+    ∙ ap (λ (x : Vertex). plus (plus (base c.args.there.now.net.placement c.args.there.now.origin) e.at) (base_sum C (minus x.cell e.shift))) c.w.view_is
 
 pub place_of-place-requires : goal.place_of-place-requires
 place_of-place-requires g c =

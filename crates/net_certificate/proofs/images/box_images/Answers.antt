@@ -1,10 +1,18 @@
--- Of `box_images`: what `image_of` requires; the loop over `i`; what it ensures.
-use Rattle.std.proofs.Common.{◌≡◌, ◌<◌, ◌*◌, ℕ, lit<, sym, subst, ap, ◌∙◌, arith}
+-- Of `box_images`: what `vertex_at` and `image_of` require; the loop over `i`; what it ensures.
+use Rattle.std.proofs.Common.{◌≡◌, ◌<◌, ◌≤◌, ◌*◌, ℕ, lit<, sym, subst, ap, ◌∙◌, arith}
+use Rattle.std.proofs.{Math.Nat.mul-le-mul, lemmas.Result.err_from_is_err_and}
+use Rattle.periodic_net.specs.Limits.{most_vertices}
 use Rattle.periodic_net.specs.Graph.{Graph, Vertex}
 use Rattle.map_check.specs.{Layouts.box_size, Layouts.vertex_at, Conditions.most_period}
 use Rattle.net_certificate.specs.Tables.{IsImageOf}
 use Rattle.net_certificate.proofs.BoxLists.{all_images, one_more, place_inside}
 use Rattle.net_certificate.proofs.images.box_images.Goals as goal
+
+pub vertex_at-w-requires-clause-inside : goal.vertex_at-w-requires-clause-inside
+vertex_at-w-requires-clause-inside g c =
+    let n = c.vertices.result in let b = box_size g.row.D c.args.m in let few = c.vertices.ensures.small in
+    let limit : n * b ≤ most_vertices * b = mul-le-mul (omega (arith, few, c.vertices.ensures.count)) (omega arith) in
+    omega (arith, limit, c.entries-count.ensures, c.loop-i-test.true)
 
 pub image_of-requires : goal.image_of-requires
 image_of-requires g c =
@@ -34,3 +42,6 @@ returns g c =
     let end = c.loop-i.auto.i-end in let past = c.loop-i-test.false in
     let all : c.loop-i.i ≡ c.entries-count.result = omega (arith, end, past) in
     all_images S T m c.requires.one_key.one_list.here c.requires.from c.loop-i.i c.loop-i.found.items (all ∙ count) c.loop-i.invariant
+
+pub returns-in_err-push : goal.returns-in_err-push
+returns-in_err-push g c = let told = err_from_is_err_and c.from_residual.result c.from_residual.ensures.1 in rw told.1 tt

@@ -1,6 +1,6 @@
--- Of `read_images`: the loop over `i`; the clause `images`.
+-- Of `read_images`: what `next_image` requires; the loop over `i`; what it ensures.
 use Rattle.std.proofs.Common.{◌<◌, ◌*◌, ◌^◌, [], ◌∷◌, ◌++◌, length, refl, sym, ap, ◌∙◌, subst, arith}
-use Rattle.std.proofs.lemmas.List.{length-append}
+use Rattle.std.proofs.lemmas.{List.length-append, Result.err_from_is_err_and}
 use Rattle.periodic_net.specs.Graph.{Vertex}
 use Rattle.line_text.{specs.Lines.IsAt, proofs.CallerLemmas.at_none, proofs.CallerLemmas.at_some}
 use Rattle.map_check.specs.{Conditions.IsImage, Layouts.vertex_at}
@@ -41,3 +41,22 @@ loop-i-preserved c =
           (c.in_ok-x.ensures.place text rows at)))),
       (let long = ap length c.in_ok-push.ensures.ok ∙ length-append c.loop-i.images (x ∷ []) in omega (arith, long, c.loop-i.invariant.1)),
     )
+
+pub next_image-requires-clause-few : goal.next_image-requires-clause-few
+next_image-requires-clause-few c = omega (arith, c.loop-i-test.true, c.image_count-i-end.ensures, c.requires.period.few)
+
+pub returns-in_err-x : goal.returns-in_err-x
+returns-in_err-x c =
+    let told = err_from_is_err_and c.from_residual.result c.from_residual.ensures.1 in
+    record { count = rw told.1 tt; images = λ text items edges others is. rw (told.1, told.2) tt }
+
+pub returns-in_err-push : goal.returns-in_err-push
+returns-in_err-push c =
+    let told = err_from_is_err_and c.from_residual-in_err-push.result c.from_residual-in_err-push.ensures.1 in
+    record { count = rw told.1 tt; images = λ text items edges others is. rw (told.1, told.2) tt }
+
+pub returns : goal.returns
+returns c = record {
+  count = omega (arith, c.loop-i.invariant.1, c.loop-i-test.false, c.loop-i.auto.i-end, c.image_count-i-end.ensures, c.requires.period.few);
+  images = c.loop-i.invariant.0;
+}
