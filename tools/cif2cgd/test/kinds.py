@@ -31,7 +31,7 @@ class Kinds(unittest.TestCase):
 
     def nets(self, text: str, **options: object) -> list[Net]:
         done = converted(text, **options)
-        self.assertFalse(done.is_refused, done.told(refusals_alone=False))
+        self.assertFalse(done.is_refused, done.told(is_quiet=False))
         return done.nets
 
     def net(self, text: str, **options: object) -> Net:
@@ -46,7 +46,7 @@ class Kinds(unittest.TestCase):
     def refusal(self, text: str, **options: object) -> str:
         done = converted(text, **options)
         self.assertTrue(done.is_refused, [net.name for net in done.nets])
-        return "\n".join(done.told(refusals_alone=True))
+        return "\n".join(done.told(is_quiet=True))
 
     def assert_net(self, symbol: str, text: str, **options: object) -> None:
         graph = self.net(text, **options).graph

@@ -79,6 +79,12 @@ class Words(FolderTest):
         self.assertIn(b'NAME "stdin"', done.stdout)
         self.assertEqual(done.stderr, b"")
 
+    def test_quiet_tells_doubts(self):
+        unnamed = CAESIUM_CHLORIDE.replace("_space_group_name_H-M_alt 'P m -3 m'\n", "")
+        done = run(COMMAND, "--quiet", "-", stdin=unnamed.encode())
+        self.assertEqual(done.stdout.count(b"PERIODIC_GRAPH"), 1)
+        self.assertIn(b"no symmetry is given", done.stderr)
+
     def test_notes_name_the_file(self):
         self.assertEqual(run(COMMAND, self.file).stderr, b"caesium chloride.cif: symmetry from name P m -3 m\n")
 

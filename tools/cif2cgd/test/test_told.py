@@ -47,6 +47,15 @@ class Fields(Kinds):
         self.assertEqual(Provenance.from_dict(fields), provenance)
         self.assertEqual(fields["doubts"], list(provenance.doubts))
 
+    def test_what_a_net_has_not_is_told_in_any_case(self):
+        text = cif_text((4, 4, 4, 90, 90, 90), [("Cs1", "Cs", 0, 0, 0), ("Cl1", "Cl", 0.5, 0.5, 0.5)], operations=["x,y,z"])
+        alternatives = text.removesuffix("1\n") + "0.6\nBr1 Br 0.65 0.5 0.5 0.4\n"
+        for structure, options, wanted in (
+                (published("cuprite"), {}, "2 interwoven nets alike in the cell, one is written"),
+                (published("MOF-5") + "O91 O 0.5 0.5 0.5 1\n", {"convention": "single-nodes"}, "left out: "),
+                (alternatives, {}, "disorder: ")):
+            self.assertIn(wanted, "\n".join(converted(structure, **options).told(is_quiet=True)))
+
     def test_copies_and_components(self):
         net = self.net(published("cuprite"))
         self.assertEqual((net.copies, [str(part) for part in net.components]), (2, ["2 nets in space Cu4O2"]))

@@ -12,8 +12,11 @@ DISORDER = "disorder"      # which of several alternatives was taken
 CONVENTION = "convention"  # what became vertices
 DOUBT = "doubt"            # where another reading gives another net
 DROPPED = "dropped"        # rows and parts of a text that are passed over
+COPIES = "copies"          # of how many nets alike in the cell one is given
 OTHER = "other"
 REFUSED = "refused"        # why there is no net
+# what is told of a net or a file in any case: what may make it another net, and what it has not
+TOLD = (REFUSED, DOUBT, DROPPED, LEFT_OUT, DISORDER, COPIES)
 # of the components of a structure, by their dimension
 KINDS = ("molecule", "rod", "layer", "net in space")
 PLURALS = ("molecules", "rods", "layers", "nets in space")

@@ -8,7 +8,7 @@ import sys
 
 from ..errors import NotANet
 from ..files import STANDARD_OUTPUT, opened_plain
-from ..provenance import DROPPED, REFUSED
+from ..provenance import TOLD
 
 from .converter import Converter
 
@@ -26,7 +26,8 @@ def words() -> argparse.Namespace:
     parser.add_argument("files", nargs="*", metavar="FILE", default=["-"],
                         help="a .cgd or .arc file, packed by gzip or not, or - for standard input, which is read where "
                         "none is given")
-    parser.add_argument("--quiet", action="store_true", help="tell only why a block is refused, and what of a block is passed over")
+    parser.add_argument("--quiet", action="store_true", help="tell no more than doubts, what of a block is passed over, and why one "
+                        "is refused")
     return parser.parse_args()
 
 
@@ -40,7 +41,7 @@ def main() -> int:
 def convert_file(file: str, is_quiet: bool) -> int:
     """Writes the nets of a file; 1 where some block is refused, or the file cannot be read."""
     def tell(text: str, kind: str) -> None:
-        if kind in (REFUSED, DROPPED) or not is_quiet:
+        if kind in TOLD or not is_quiet:
             sys.stdout.flush()
             print(text.encode(errors="replace").decode(), file=sys.stderr)
 

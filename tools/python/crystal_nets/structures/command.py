@@ -73,7 +73,8 @@ def words() -> argparse.Namespace:
     parser.add_argument("--jobs", type=number_of_jobs, default=1, metavar="N",
                         help="read files in N processes; what is written is the same (0: one a processor)")
     parser.add_argument("--notes", metavar="FILE", help="write what is told as JSON, one line a file")
-    parser.add_argument("--quiet", action="store_true", help="tell only why a file gives no net, and what of it is passed over")
+    parser.add_argument("--quiet", action="store_true", help="tell no more than doubts, what a net has not, and why a file "
+                        "gives no net")
     return parser.parse_args()
 
 
@@ -130,7 +131,7 @@ def main() -> int:
     refused = 0
     with Progress("cif2cgd", len(sources), "files") as bar:
         for done in conversions(sources, options_of(asked), asked.jobs):
-            bar.tell(done.told(refusals_alone=asked.quiet))
+            bar.tell(done.told(asked.quiet))
             sys.stdout.buffer.write(done.text)
             if notes:
                 print(done.json_line(), file=notes)

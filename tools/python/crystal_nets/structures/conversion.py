@@ -10,7 +10,7 @@ from typing import Any
 from ..errors import NotANet, PackageMissing
 from ..files import content_of_file
 from ..net import Net
-from ..provenance import DOUBT, DROPPED, LEFT_OUT, OTHER, REFUSED, Note
+from ..provenance import DOUBT, LEFT_OUT, OTHER, REFUSED, TOLD, Note
 from ..reading import unpacked
 from ..refusal import Refused
 from ..texts.graph_text import plain
@@ -57,10 +57,10 @@ class Conversion:
         return b"".join(f"# {label}: {line}\n".encode() if line else net.block
                         for net in self.nets for line in (*_comments_of(net), ""))
 
-    def told(self, refusals_alone: bool) -> list[str]:
-        """The lines for standard error; what of a file is passed over is told in any case."""
+    def told(self, is_quiet: bool) -> list[str]:
+        """The lines for standard error; where it is quiet, those alone that are told in any case."""
         return [f"{what or '.'}: {'refused: ' if note.kind == REFUSED else ''}{note.text}"
-                for what, note in self.notes if note.kind in (REFUSED, DROPPED) or not refusals_alone]
+                for what, note in self.notes if note.kind in TOLD or not is_quiet]
 
     def json_line(self) -> str:
         """One line of JSON: the file, its nets, what is in doubt, what was left out, why it is refused."""

@@ -10,8 +10,8 @@ import numpy as np
 
 from ...graph import Edge, QuotientGraph
 from ...net import Net
-from ...provenance import (CONVENTION, DISORDER, DOUBT, KINDS, LEFT_OUT, OTHER, PLURALS, Component, Note, Provenance,
-                           shorten)
+from ...provenance import (CONVENTION, COPIES, DISORDER, DOUBT, KINDS, LEFT_OUT, OTHER, PLURALS, Component, Note,
+                           Provenance, shorten)
 from ...refusal import Refused
 from ...texts.graph_text import written_name
 from ..atoms.crystal import FULL, Crystal
@@ -30,7 +30,7 @@ from .simplification import Contracted, contracted, sequences_of, shells, withou
 TOUCH = 0.30         # angstrom above the sum of the radii: atoms of one guest
 MOSTLY_THERE = 0.65  # the occupancy from which an atom counts as full, and that is told as a doubt
 MOST_TOLD = 600  # letters of the doubts about bonds
-COPIES = (*PLURALS[:3], "interwoven nets")
+ALIKE = (*PLURALS[:3], "interwoven nets")
 ZEOLITE = "zeolite"  # the mode in which tetrahedral atoms and their oxygens alone count
 
 
@@ -307,7 +307,7 @@ def _copies(group: list[Piece]) -> int:
 
 def _told_copies(group: list[Piece]) -> list[Note]:
     count = _copies(group)
-    return [Note(OTHER, f"{count} {COPIES[group[0].dimension]} alike in the cell, one is written")] if count > 1 else []
+    return [Note(COPIES, f"{count} {ALIKE[group[0].dimension]} alike in the cell, one is written")] if count > 1 else []
 
 
 def _told_simplification(simple: Contracted) -> list[Note]:
