@@ -1,6 +1,7 @@
 """How commands end: by signals, where memory is refused, and where an output is full. Nothing that they began runs on, no
 trace of Python is shown, and no status says something of nets that were not looked at."""
 
+import importlib
 import os
 import shutil
 import signal
@@ -12,7 +13,7 @@ from unittest import mock
 
 from testing import PROGRAM, TOOLS, TOP, FolderTest, ends_soon, need_commands, need_modules, need_program, run
 
-from crystal_nets import read  # noqa: E402
+from crystal_nets import identify_each, read  # noqa: E402
 
 BATCH = TOOLS / "batch"
 SQUARE = b"PERIODIC_GRAPH\nNAME square\nEDGES\n1 1 1 0\n1 1 0 1\nEND\n"
@@ -117,23 +118,37 @@ class Statuses(FolderTest):
             with self.assertRaises(MemoryError):
                 read(quartz)
             done = convert(Source("quartz.cif", "quartz.cif", "quartz"), quartz.read_bytes(), Options())
-            self.assertEqual(done.told(refusals_alone=True), ["quartz.cif: refused: there is not enough memory"])
+            self.assertEqual(done.told(is_quiet=True), ["quartz.cif: refused: there is not enough memory"])
         with mock.patch("crystal_nets.blocks.converter.net_of_block", side_effect=MemoryError):
             self.assertRaises(MemoryError, read, TOP / "examples/embedded.cgd")
 
     def test_a_package_that_is_missing_is_no_answer(self):
-        """A POSCAR is read by ase: where that is missing nothing is kept of it, and the same command reads it once it is
-        there."""
+        """A POSCAR is read by ase: where that is missing its row says so, and the same command reads it once it is there."""
         need_program()
         need_modules("gemmi", "numpy", "scipy", "ase")
-        source, table = self.folder / "POSCAR", self.folder / "table"
-        source.write_text("Si\n5.43\n0 0.5 0.5\n0.5 0 0.5\n0.5 0.5 0\nSi\n2\nDirect\n0 0 0\n0.25 0.25 0.25\n")
+        source, table, parts = self.folder / "source", self.folder / "table", self.folder / "parts"
+        source.mkdir()
+        (source / "POSCAR").write_text("Si\n5.43\n0 0.5 0.5\n0.5 0 0.5\n0.5 0.5 0\nSi\n2\nDirect\n0 0 0\n0.25 0.25 0.25\n")
+        (source / "a.cgd").write_bytes(SQUARE)
         code = (f"import sys; sys.path.insert(0, {str(TOOLS / 'python')!r}); sys.modules['ase.io'] = None\n"
                 "from crystal_nets.commands import run; run('net_table')")
-        done = run(sys.executable, "-B", "-c", code, source, table, "--no-names", "--jobs", 1, status=3)
-        self.assertRegex(done.stderr, rb"\Anet_table: [^\n]*python3-ase[^\n]*\n\Z")
-        run(BATCH / "net_table", source, table, "--no-names", "--jobs", 1)
-        self.assertIn(b"\taccepted\t", (table / "table.tsv").read_bytes())
+        without = (sys.executable, "-B", "-c", code)
+        for _ in range(2):
+            done = run(*without, source, table, "--no-names", "--jobs", 1, status=75)
+            self.assertRegex(done.stderr, rb"\Anet_table: a file is not read, since a package is missing; the same command tries "
+                                          rb"again: [^\n]*POSCAR: [^\n]*python3-ase[^\n]*\n\Z")
+            rows = [line.split("\t") for line in (table / "table.tsv").read_text().splitlines()[1:]]
+            self.assertEqual([(row[1].rpartition("/")[2], row[4]) for row in rows], [("POSCAR", "unreadable"), ("a.cgd", "accepted")])
+            self.assertIn("apt-get install python3-ase", (table / "refused.tsv").read_text())
+        run(*without, source, parts, "--plan")
+        run(*without, parts, "--part", "1/1", "--jobs", 1, status=75)
+        for folder in (table, parts):
+            run(BATCH / "net_table", folder, "--no-names", "--jobs", 1)
+            self.assertEqual((folder / "table.tsv").read_bytes().count(b"\taccepted\t"), 2)
+        importlib.import_module("crystal_nets.structures.conversion")  # with its packages, which the patch would take away
+        answers = identify_each([source / "a.cgd", source / "POSCAR"], archive=None)
+        with mock.patch.dict(sys.modules, {"ase.io": None}):
+            self.assertEqual([answer.accepted for answer in answers], [True, False])
 
     def test_a_full_output_is_no_status_of_nets(self):
         need_program()

@@ -220,8 +220,8 @@ class Pieces(FolderTest):
         self.assertEqual([(row[3], row[4]) for row in rows],
                          [("a", "accepted"), ("slow", f"stopped {PLENTY} Seconds"), ("b", "accepted")])
         self.assertIn(f"no answer came within {PLENTY} seconds", (self.folder / "table/refused.tsv").read_text())
-        done = self.tool("net_table", *words, "--seconds", 9, self.folder / "nets.cgd", self.folder / "table", status=3)
-        self.assertIn(b"its seconds is %d" % PLENTY, done.stderr)
+        done = self.tool("net_table", *words, "--seconds", 9, self.folder / "nets.cgd", self.folder / "table", status=2)
+        self.assertIn(b"its --seconds is %d" % PLENTY, done.stderr)
         self.assertFalse([name for name in os.listdir(self.folder / "table/work") if name.endswith(".part")])
 
     def test_parquet(self):

@@ -155,7 +155,7 @@ class Table(FolderTest):
             result = self.folder / f"result {len(words)}"
             run(NET_TABLE, self.source, result, *words, "--no-names", "--jobs", 1, status=int(outcome != "accepted"))
             self.assertEqual([row["outcome"] for row in table_of(result)], [outcome], words)
-        run(NET_TABLE, result, "--bond", "Si-O=1.5", "--jobs", 1, status=3)
+        run(NET_TABLE, result, "--bond", "Si-O=1.5", "--jobs", 1, status=2)
         for words in (["--bond", "Si=1"], ["--bond", "Si-O=x"], ["--mode", "x"], ["--bonds", "x"]):
             run(NET_TABLE, self.source, self.folder / "other", *words, status=2)
 
@@ -202,7 +202,7 @@ class Table(FolderTest):
         self.assertEqual([path.name for path in maps], [f"{number}.maps" for number in (1, 3, 4, 5, 6)])
         for path in maps:
             self.assertEqual(run(PROGRAM, "verify", path).stdout, b"pair 2 verified\n")
-        self.make("--jobs", 2, "--no-names", "--keys-alone")
+        run(NET_TABLE, self.source, self.result, "--jobs", 2, "--no-names", "--keys-alone", status=1)
         self.assertEqual([row["names"] for row in table_of(self.result)], [""] * 6)
 
     def test_pandas_reads_it(self):
@@ -312,7 +312,8 @@ class Table(FolderTest):
         self.make()
         for words, status, word in (([], 2, "usage"), ([self.folder / "absent", self.folder / "new"], 3, "absent"),
                                     ([self.folder / "absent", self.result], 3, "its source is"),
-                                    ([self.source, self.result, "--keys-alone"], 3, "another table"),
+                                    ([self.source, self.result, "--keys-alone"], 2, "made without --keys-alone"),
+                                    ([self.result, "--keys-alone"], 2, "made without --keys-alone"),
                                     ([self.folder / "new"], 3, "nothing is planned"), ([self.archives, self.folder / "new"], 3, "no files"),
                                     ([self.source, self.result, "--jobs", "0"], 2, "1 to 1024"),
                                     ([self.source, self.result, "--part", "4/3"], 2, "3/16"),
@@ -325,6 +326,29 @@ class Table(FolderTest):
         self.assertIn(b"changed since", self.make(status=3).stderr)
         (self.result / "work/plan").write_text("{}\n")
         self.assertIn(b"no plan", self.make(status=3).stderr)
+
+    def test_options_that_a_plan_or_another_word_leaves_without_effect(self):
+        run(NET_TABLE, "--plan", "--keys-alone", "--seconds", 900, "--bond", "Si-O=1.9", "--leave-out", "H", self.source, self.result)
+        for words, told in ((["--topology"], "made without --topology"), (["--seconds", 9], "its --seconds is 900"),
+                            (["--convention", "auto"], "made without --convention"), (["--mode", "zeolite"], "made without --mode"),
+                            (["--bonds", "file"], "made without --bonds"), (["--bond", "Si-O=2"], "its --bond is {'Si-O': 1.9}"),
+                            (["--leave-out", "Na"], "its --leave-out is ['H']"), (["--keep-ions"], "made without --keep-ions"),
+                            (["--hydrogen-bonds"], "made without --hydrogen-bonds"), (["--every-copy"], "made without --every-copy"),
+                            (["--partial-as-full"], "made without --partial-as-full"),
+                            (["--accept-misfit"], "made without --accept-misfit"),
+                            (["--part", "1/1", "--archive", self.archives], "--archive has no effect with --part"),
+                            (["--part", "1/1", "--maps"], "--maps has no effect with --part"),
+                            (["--part", "1/1", "--parquet"], "--parquet has no effect with --part"),
+                            (["--part", "1/1", "--plan"], "--plan has no effect with --part"),
+                            (["--plan", "--maps"], "--maps has no effect with --plan"),
+                            (["--no-names", "--maps"], "--maps has no effect with --no-names"),
+                            (["--no-names", "--archive", self.archives], "--archive has no effect with --no-names")):
+            self.assertIn(told, run(NET_TABLE, self.result, *words, status=2).stderr.decode(), words)
+        self.assertIn(b"made with --keys-alone", run(NET_TABLE, self.source, self.result, "--seconds", 900, "--bond", "Si-O=1.9",
+                                                     "--leave-out", "H", status=2).stderr)
+        self.assertEqual(sorted(path.name for path in self.result.iterdir()), ["work"])
+        run(NET_TABLE, self.result, "--no-names", "--keys-alone", "--bond", "Si-O=1.9", "--jobs", 1, status=1)
+        self.assertEqual({row["sequences"] for row in table_of(self.result)}, {""})
 
     def test_the_status_of_a_program_that_fails(self):
         failing = self.folder / "failing"
@@ -408,12 +432,12 @@ class Topology(FolderTest):
     def test_a_plan_fixes_it(self):
         words = (self.source, self.folder / "result", "--no-names", "--jobs", 1)
         run(NET_TABLE, *words, "--topology", "--plan")
-        self.assertIn(b"its topology is True", run(NET_TABLE, *words, status=3).stderr)
+        self.assertIn(b"made with --topology", run(NET_TABLE, *words, status=2).stderr)
         run(NET_TABLE, self.folder / "result", "--part", "1/1")
         run(NET_TABLE, *words[1:], status=1)
         self.assertEqual(tuple(table_of(self.folder / "result")[0]), WITH_TOPOLOGY)
         self.make("plain")
-        self.assertIn(b"its topology is False", run(NET_TABLE, self.folder / "plain", "--topology", status=3).stderr)
+        self.assertIn(b"made without --topology", run(NET_TABLE, self.folder / "plain", "--topology", status=2).stderr)
 
     def test_pandas_reads_it(self):
         need_modules("pandas")

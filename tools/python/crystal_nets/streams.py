@@ -12,7 +12,7 @@ from typing import Any, Unpack
 from .answers import Answer
 from .archive import Archive
 from .asking import DEFAULT, Archives, answered_in_time, archive_of, identify_all
-from .errors import NotANet, in_words
+from .errors import NotANet, PackageMissing, in_words
 from .net import Net
 from .options import StructureOptions, check_names
 from .reading import read
@@ -91,7 +91,7 @@ def _nets_of(source: Any, place: str, options: StructureOptions) -> list[Net]:
     """The nets of a source, which know its place; or what stands for one that cannot be read."""
     try:
         nets = read(source, **options)
-    except (NotANet, OSError) as reason:
+    except (NotANet, PackageMissing, OSError) as reason:
         nets = [Net.refused(in_words(reason))]
     return [net.of_provenance(net.provenance.read_from(source=place)) for net in nets]
 

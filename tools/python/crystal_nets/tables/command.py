@@ -33,15 +33,20 @@ DESCRIPTION = """The table of all nets of a source: a folder of structure files 
 groups.tsv, the nets that are the same; names.tsv, those that archives have; and refused.tsv, those without a key, and
 why. A run that broke off is taken up by the same command: what was done is kept in FOLDER/work."""
 EPILOG = """exit status: 0 each net has a key; 1 some net has none; 2 usage; 3 nothing can be done, or a process was
-ended from outside; 75 a file of the source cannot be read now, and the same command tries again; else that of net_tool.
+ended from outside; 75 a file of the source cannot be read now, or for lack of a package of Python, and the same command
+tries again; else that of net_tool.
 NET_TOOL is the program; where it is not set, the one of this installation or repository, or net_tool on the path.
 example: net_table structures results --jobs 4 --archive archives"""
-SOME_REFUSED, FAILED = 1, 3
+SOME_REFUSED, USAGE, FAILED = 1, 2, 3
 TRY_AGAIN = 75  # EX_TEMPFAIL of sysexits.h
-FIXED = ("options", "seconds", "topology")  # what a plan has, also where its folder alone is given
+ELSEWHERE = "take another folder, or remove it"
 SWITCHES = {"keep_ions": "keep the cations that a framework holds as guests", "hydrogen_bonds": "hydrogen bonds are edges",
             "partial_as_full": "take partly occupied atoms as full", "accept_misfit": "take atoms that cannot be right",
             "every_copy": "each of several nets of the same atoms"}
+
+
+class OtherWords(Exception):
+    """The options are not those of the plan that is there."""
 
 
 def words() -> argparse.Namespace:
@@ -80,7 +85,18 @@ def words() -> argparse.Namespace:
     asked = parser.parse_args()
     if len(asked.paths) > 2:
         parser.error("give a SOURCE and a FOLDER, or a FOLDER alone")
+    _check_together(parser, asked)
     return asked
+
+
+def _check_together(parser: argparse.ArgumentParser, asked: argparse.Namespace) -> None:
+    """Ends with the usage where an option has no effect beside another one."""
+    of_table = {"--archive": asked.archive, "--maps": asked.maps, "--parquet": asked.parquet}
+    for one, is_given, others in (("--part", asked.part, {**of_table, "--plan": asked.plan}), ("--plan", asked.plan, of_table),
+                                  ("--no-names", asked.no_names, {"--archive": asked.archive, "--maps": asked.maps})):
+        without = [other for other, is_other in others.items() if is_given and is_other]
+        if without:
+            parser.error(f"{without[0]} has no effect with {one}")
 
 
 def number_of_jobs(text: str) -> int:
@@ -128,8 +144,9 @@ def planned(asked: argparse.Namespace, folder: Path, work: Path) -> Plan:
     if path.exists():
         plan = read_plan(path)
         settings = settings_of(asked, asked.paths[0])
-        given = settings if len(asked.paths) == 2 else {name: settings[name] for name in FIXED if settings[name]}
-        _check_settings(plan, given, folder)
+        if len(asked.paths) == 2 and _place(settings) != _place(plan.settings):
+            raise Failed(f"{folder} has another table: its source is {plan.settings['source']!r}; {ELSEWHERE}")
+        _check_words(plan, settings, folder, len(asked.paths) == 2)
         check_source(plan)
         return plan
     if len(asked.paths) == 1:
@@ -146,36 +163,52 @@ def planned(asked: argparse.Namespace, folder: Path, work: Path) -> Plan:
     return plan
 
 
-def _check_settings(plan: Plan, settings: dict[str, Any], folder: Path) -> None:
-    """Failed where a plan is of other words. A source may be given from another folder than it was."""
-    def place(of: dict[str, Any]) -> str:
-        return os.path.normpath(os.path.join(str(of["at"]), str(of["source"])))
-
-    for name, value in settings.items():
-        known = plan.settings.get(name)
-        is_same = place(settings) == place(plan.settings) if name in ("source", "at") else known == value
-        if not is_same:
-            raise Failed(f"{folder} has another table: its {name} is {known!r}; take another folder, or remove it")
+def _place(settings: dict[str, Any]) -> str:
+    """The path of a source, which may be given from several folders."""
+    return os.path.normpath(os.path.join(str(settings["at"]), str(settings["source"])))
 
 
-def make_pieces(work: Path, plan: Plan, numbers: list[int], jobs: int) -> None:
-    """Makes the rows of those pieces that have none. Where a file of some cannot be read now, the others are made, and
-    then SourceAway is raised."""
-    missing = [number for number in numbers if rows_of(work, plan, number) is None]
+def words_of(settings: dict[str, Any]) -> dict[str, Any]:
+    """The options that settings are made of, with their values."""
+    switches = {"--keys-alone": settings["command"] == "key", "--topology": settings["topology"]}
+    given = {"--seconds": settings["seconds"], **{word: True for word, is_given in switches.items() if is_given}}
+    named = {"lengths": "--bond"}
+    given |= {named.get(name, "--" + name.replace("_", "-")): value for name, value in settings["options"].items()}
+    return {word: value for word, value in given.items() if value is not None}
+
+
+def _check_words(plan: Plan, settings: dict[str, Any], folder: Path, is_whole: bool) -> None:
+    """OtherWords where a plan is not of the options that are given, or, where these are whole, of others too."""
+    known, given = words_of(plan.settings), words_of(settings)
+    for word in sorted({*known, *given} if is_whole else given):
+        value = known.get(word)
+        if value != given.get(word):
+            is_switch = value is None or value is True
+            told = f"it is made {'with' if value else 'without'} {word}" if is_switch else f"its {word} is {value!r}"
+            raise OtherWords(f"{folder} has another table: {told}; {ELSEWHERE}")
+
+
+def make_pieces(work: Path, plan: Plan, numbers: list[int], jobs: int) -> list[str]:
+    """Makes the rows of those pieces that have none, or not all since a package was missing; gives a line for each file
+    that a package is missing for. Where a file of some cannot be read now, the others are made, and then SourceAway is
+    raised."""
+    missing = [number for number in numbers if rows_of(work, plan, number, is_final=True) is None]
     away: list[SourceAway] = []
+    lacking: list[str] = []
     with Progress("net_table", len(missing), "pieces") as bar, contextlib.closing(_made(work, plan, missing, jobs)) as calls:
         for made in calls:
             try:
-                made()
+                lacking += made()
             except SourceAway as reason:
                 away.append(reason)
             bar.step()
     if away:
         raise SourceAway(f"{len(away)} of {len(plan.pieces)} pieces are not there: {away[0]}")
+    return lacking
 
 
-def _made(work: Path, plan: Plan, numbers: list[int], jobs: int) -> Generator[Callable[[], None], None, None]:
-    """The pieces, each as a call that gives nothing, or raises what was raised of it."""
+def _made(work: Path, plan: Plan, numbers: list[int], jobs: int) -> Generator[Callable[[], list[str]], None, None]:
+    """The pieces, each as a call that gives what its rows lack, or raises what was raised of it."""
     if jobs == 1 or len(numbers) < 2:
         for number in numbers:
             yield partial(make_rows, path_of(work, number), plan.piece(number))
@@ -215,8 +248,8 @@ def make_table(asked: argparse.Namespace) -> int:
     work = folder / "work"
     if asked.part:
         plan = planned(asked, folder, work)
-        make_pieces(work, plan, list(range(asked.part[0], len(plan.pieces) + 1, asked.part[1])), asked.jobs)
-        return 0
+        numbers = list(range(asked.part[0], len(plan.pieces) + 1, asked.part[1]))
+        return _status_of(make_pieces(work, plan, numbers, asked.jobs), 0)
     if asked.parquet:
         need_pyarrow()
     with alone(work):
@@ -225,14 +258,24 @@ def make_table(asked: argparse.Namespace) -> int:
             print(f"{folder}: {len(plan.pieces)} pieces")
             return 0
         archive = archive_of(asked)
-        make_pieces(work, plan, list(range(1, len(plan.pieces) + 1)), asked.jobs)
+        lacking = make_pieces(work, plan, list(range(1, len(plan.pieces) + 1)), asked.jobs)
         check_source(plan)
         counts = join(folder, work, plan, archive, asked.jobs, asked.maps)
         if asked.parquet:
             write_parquet(folder, plan)
     print(f"{folder / FILES[0]}: {counts.nets} nets, {counts.with_key} with a key, {counts.kinds} different, "
           f"{counts.named} with a name, {counts.nets - counts.with_key} refused")
-    return SOME_REFUSED if counts.with_key < counts.nets else 0
+    return _status_of(lacking, SOME_REFUSED if counts.with_key < counts.nets else 0)
+
+
+def _status_of(lacking: list[str], status: int) -> int:
+    """The status of a run whose files are all read; else it is told why some are not, and the same command tries again."""
+    if not lacking:
+        return status
+    files = f"{len(lacking)} files are" if len(lacking) > 1 else "a file is"
+    told = f"net_table: {files} not read, since a package is missing; the same command tries again: {lacking[0]}"
+    print(told.encode(errors="replace").decode(), file=sys.stderr)
+    return TRY_AGAIN
 
 
 def main() -> int:
@@ -250,6 +293,9 @@ def main() -> int:
     except SourceAway as reason:
         print(f"net_table: {reason}", file=sys.stderr)
         return TRY_AGAIN
+    except OtherWords as reason:
+        print(f"net_table: {reason}", file=sys.stderr)
+        return USAGE
     except (Failed, CrystalNetsError, OSError) as fault:
         print(f"net_table: {in_words(fault)}", file=sys.stderr)
     return FAILED

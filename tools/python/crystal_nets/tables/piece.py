@@ -11,7 +11,7 @@ from typing import Any
 
 from ..answers import Answer, short_outcome
 from ..asking import answered_in_time, identify_all, keys
-from ..errors import NotANet
+from ..errors import NotANet, PackageMissing
 from ..files import write_whole
 from ..net import Net
 from ..reading import net_of_chunk, nets_of_file
@@ -27,13 +27,15 @@ def path_of(folder: Path, number: int) -> Path:
     return folder / f"{number:06}.rows"
 
 
-def make_rows(path: Path, piece: Piece) -> None:
-    """Writes the rows of a piece."""
-    found = [item for portion in piece.portions for item in nets_of_portion(portion, piece.settings)]
+def make_rows(path: Path, piece: Piece) -> list[str]:
+    """Writes the rows of a piece, and gives a line for each file that is not read since a package is missing."""
+    lacking: list[str] = []
+    found = [item for portion in piece.portions for item in nets_of_portion(portion, piece.settings, lacking)]
     answers = _answers([net for _, net in found], piece.settings)
     of_topology = listed if has_topology(piece.settings) else lambda _: NOTHING
     content = b"".join(_row(source, answer, of_topology(answer)) for (source, _), answer in zip(found, answers, strict=True))
-    write_whole(path, with_head(piece.mark, content))
+    write_whole(path, with_head(piece.mark, content, bool(lacking)))
+    return lacking
 
 
 def _answers(nets: list[Net], settings: dict[str, Any]) -> list[Answer]:
@@ -44,40 +46,47 @@ def _answers(nets: list[Net], settings: dict[str, Any]) -> list[Answer]:
     return answered_in_time(ask, nets, settings["seconds"])
 
 
-def rows_of(folder: Path, plan: Plan, number: int) -> list[bytes] | None:
-    """The rows of a piece, each with its line feed; None where they are not there, or not whole, or of another plan."""
+def rows_of(folder: Path, plan: Plan, number: int, is_final: bool = False) -> list[bytes] | None:
+    """The rows of a piece, each with its line feed; None where they are not there, or not whole, or of another plan. Where
+    final ones are asked for, it is None also where a package was missing for some."""
     try:
         content = path_of(folder, number).read_bytes()
     except FileNotFoundError:
         return None
     head, _, rows = content.partition(b"\n")
-    return rows.splitlines(keepends=True) if head + b"\n" == _head(plan.mark, rows) else None
+    heads = [_head(plan.mark, rows, lacks) for lacks in ((False,) if is_final else (False, True))]
+    return rows.splitlines(keepends=True) if head + b"\n" in heads else None
 
 
-def with_head(mark: str, rows: bytes) -> bytes:
-    """The rows as a file of them has them, under a plan's mark and a sum."""
-    return _head(mark, rows) + rows
+def with_head(mark: str, rows: bytes, lacks: bool = False) -> bytes:
+    """The rows as a file of them has them, under a plan's mark and a sum, and whether a package was missing for some."""
+    return _head(mark, rows, lacks) + rows
 
 
-def _head(mark: str, rows: bytes) -> bytes:
-    return f"{FORM} {mark} {hashlib.sha256(rows).hexdigest()}\n".encode()
+def _head(mark: str, rows: bytes, lacks: bool) -> bytes:
+    return f"{FORM} {mark}{' lacks' * lacks} {hashlib.sha256(rows).hexdigest()}\n".encode()
 
 
-def nets_of_portion(portion: Portion, settings: dict[str, Any]) -> list[Found]:
-    """The nets of a portion. What is in no form is a refusal in its place; what cannot be read now is none."""
-    nets = list(_nets_of(portion, portion.read(settings["at"]), settings))
+def nets_of_portion(portion: Portion, settings: dict[str, Any], lacking: list[str]) -> list[Found]:
+    """The nets of a portion. What is in no form is a refusal in its place, and so is what needs a package that is missing,
+    which is told beside; what cannot be read now is none."""
+    missed: list[str] = []
+    nets = list(_nets_of(portion, portion.read(settings["at"]), settings, missed))
+    lacking += [f"{portion.path}: {missed[0]}"] if missed else []
     if not nets and portion.offset == 0:
         nets = [Net.refused("there is no net in it")]
     return [(portion.path, net) for net in nets]
 
 
-def _nets_of(portion: Portion, content: bytes, settings: dict[str, Any]) -> Iterator[Net]:
-    """The nets. The lines that open their blocks are counted in the whole file."""
+def _nets_of(portion: Portion, content: bytes, settings: dict[str, Any], missed: list[str]) -> Iterator[Net]:
+    """The nets. The lines that open their blocks are counted in the whole file. What is said where a package is missing
+    is told beside, too."""
     if portion.kind == WHOLE:
         options = {**settings["options"], "leave_out": frozenset(settings["options"].get("leave_out", ()))}
         try:
             yield from nets_of_file(content, os.path.basename(portion.path), options)
-        except NotANet as reason:  # it is damaged, or a text of another kind begins there
+        except (NotANet, PackageMissing) as reason:  # it is damaged, or a text of another kind begins there
+            missed += [str(reason)] if isinstance(reason, PackageMissing) else []
             yield Net.refused(str(reason))
         return
     for chunk in chunks_of(BytesIO(content), portion.kind == AFTER_ITEM):
@@ -86,7 +95,8 @@ def _nets_of(portion: Portion, content: bytes, settings: dict[str, Any]) -> Iter
             chunk.opening_line += portion.lines_before
             try:
                 yield net_of_chunk(chunk)
-            except NotANet as reason:  # a text of another kind begins there
+            except (NotANet, PackageMissing) as reason:  # a text of another kind begins there
+                missed += [str(reason)] if isinstance(reason, PackageMissing) else []
                 refused = Net.refused(str(reason))
                 yield refused.of_provenance(refused.provenance.at_line(chunk.opening_line))
 
