@@ -112,7 +112,7 @@ class Frameworks(unittest.TestCase):
             for convention, symbol in wanted.items():
                 name = f"{framework} {kind} {convention}"
                 done = convert(Source(name, name, name), content.encode(), Options(convention=convention))
-                self.assertFalse(done.is_refused, done.told(refusals_alone=False))
+                self.assertFalse(done.is_refused, done.told(is_quiet=False))
                 self.assertIn(f"{convention}: ", done.text.decode().splitlines()[0])
                 self.text += done.text
                 self.wanted[name] = symbol
@@ -157,7 +157,7 @@ class Published(Frameworks):
         rows = "\n".join(row + (" -1" if row.endswith("0.25") else " .") for row in rows.splitlines())
         done = convert(Source("d", "d", "d"), f"{head}_atom_site_occupancy\n_atom_site_disorder_group\n{rows}\n".encode(),
                        Options(convention="all-atoms"))
-        told = "\n".join(done.told(refusals_alone=False))
+        told = "\n".join(done.told(is_quiet=False))
         self.assertIn("images of group -1", told)
         whole = convert(Source("d", "d", "d"), text.encode(), Options(convention="all-atoms"))
         self.assertEqual(len(whole.nets[0].graph.vertices), len(done.nets[0].graph.vertices))
@@ -204,13 +204,13 @@ class Conventions(unittest.TestCase):
     def test_auto_gives_those_that_differ_under_their_names(self):
         done = self.auto("MOF-505")
         self.assertEqual([net.name for net in done.nets], ["MOF-505 single-nodes", "MOF-505 all-nodes"])
-        told = done.told(refusals_alone=False)
+        told = done.told(is_quiet=False)
         self.assertTrue(any(line.endswith(": pe and pem do not apply: there are no rods of metals") for line in told), told)
 
     def test_auto_tells_which_are_the_same(self):
         done = self.auto("IRMOF-10")
         self.assertEqual([net.name for net in done.nets], ["IRMOF-10 single-nodes"])
-        told = "\n".join(done.told(refusals_alone=False))
+        told = "\n".join(done.told(is_quiet=False))
         self.assertIn("all-nodes: the net of single-nodes, by its coordination sequences", told)
 
     def test_auto_of_rods_of_organic_frameworks_and_of_minerals(self):
@@ -227,7 +227,7 @@ class Conventions(unittest.TestCase):
                 (quartz, "pe", "there are no metals"), (quartz, "standard", "there is no carbon"),
                 (mil_53, "single-nodes", "the metal parts go on without end, as rods: pe and pem apply")):
             done = convert(Source("x", "x", "x"), content, Options(convention=convention))
-            self.assertEqual(done.told(refusals_alone=True), [f"x: refused: {convention} does not apply: {reason}"])
+            self.assertEqual(done.told(is_quiet=True), [f"x: refused: {convention} does not apply: {reason}"])
 
     def test_each_has_its_source(self):
         for convention in CONVENTIONS.values():
@@ -254,7 +254,7 @@ class Conventions(unittest.TestCase):
         origin = f"{name}, {count} nets, made from ideal geometry: not measured"
         for kind, content in files_of(name, origin, atoms).items():
             done = convert(Source(kind, kind, kind), content.encode(), Options(convention=convention))
-            told = "\n".join(done.told(refusals_alone=False))
+            told = "\n".join(done.told(is_quiet=False))
             self.assertIn(f"{count} interwoven nets alike in the cell, one is written", told, kind)
             self.assertEqual(symbols_of(done.text), {kind: "dia"})
 
@@ -266,7 +266,7 @@ class Conventions(unittest.TestCase):
             self.assertEqual(symbols_of(done.text), {kind: "hcb"})
             self.assertIn("each molecule is a vertex", done.text.decode().splitlines()[0])
             done = convert(Source(kind, kind, kind), content.encode(), Options())
-            self.assertIn("no net: ", done.told(refusals_alone=True)[0])
+            self.assertIn("no net: ", done.told(is_quiet=True)[0])
 
 
 def trimesic_acid() -> Atoms:

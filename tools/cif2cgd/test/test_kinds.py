@@ -18,7 +18,7 @@ class Overlaps(Kinds):
         text = cif_text(cubic(5.9227), [("Zn1", "Zn", 0.25, 0.25, 0.25), ("C1", "C", 0.4441, 0.4441, 0.4441, 0.5),
                                        ("N1", "N", 0.4441, 0.4441, 0.4441, 0.5)], name="P n -3 m:2")
         self.assert_net("dia", text)
-        self.assertIn("C1 N1", "\n".join(converted(text).told(refusals_alone=False)))
+        self.assertIn("C1 N1", "\n".join(converted(text).told(is_quiet=False)))
 
     def test_a_vacant_prussian_blue(self):
         """Mn3[Co(CN)6]2 with a third of the cobalt absent, and water in its place; ideal coordinates."""

@@ -50,10 +50,10 @@ class Rods(Kinds):
                   for k, ((name, x, y, z), is_first) in enumerate(product(half, (True, False)))]
         text = cif_text((a, b, c, 90, 90, 90), sites, operations=["x,y,z"])
         done = converted(text, convention="pe")
-        self.assertEqual([net.graph.dimension for net in done.nets], [2], done.told(refusals_alone=False))
+        self.assertEqual([net.graph.dimension for net in done.nets], [2], done.told(is_quiet=False))
         done = converted(text, convention="auto")
         self.assertTrue(done.nets)
-        self.assertNotIn("failed", "".join(done.told(refusals_alone=False)))
+        self.assertNotIn("failed", "".join(done.told(is_quiet=False)))
 
 
 class OneSite(Kinds):

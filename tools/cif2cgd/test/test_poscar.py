@@ -33,7 +33,7 @@ def read(text: str) -> Conversion:
 
 
 def told(text: str) -> str:
-    return "\n".join(read(text).told(refusals_alone=False))
+    return "\n".join(read(text).told(is_quiet=False))
 
 
 class Poscar(unittest.TestCase):

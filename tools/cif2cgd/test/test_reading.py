@@ -15,7 +15,7 @@ from structures import STRUCTURES, cif_text, images_of, presentations  # noqa: E
 
 from crystal_nets.structures.bonds.rules import find_bonds  # noqa: E402
 from crystal_nets.structures.nets.choice import Options  # noqa: E402
-from crystal_nets.structures.conversion import Source, convert  # noqa: E402
+from crystal_nets.structures.conversion import Source, read_and_convert  # noqa: E402
 from crystal_nets.structures.reading.document import blocks_of  # noqa: E402
 from crystal_nets.structures.reading.structure import read_crystal  # noqa: E402
 
@@ -56,10 +56,10 @@ class Reading(unittest.TestCase):
     def convert(self, text: str | bytes, status: int = 0, **options: object) -> tuple[str, str]:
         """The rows of the nets, without their names, and what is told."""
         content = text if isinstance(text, bytes) else text.encode()
-        done = convert(Source("test.cif", "test.cif", "test"), content, Options(**options))
-        self.assertEqual(done.is_refused, bool(status), done.told(refusals_alone=False))
+        done = read_and_convert(Source("-", "test.cif", "test"), Options(**options), content)
+        self.assertEqual(done.is_refused, bool(status), done.told(is_quiet=False))
         rows = [line for line in done.text.decode().splitlines() if not line.startswith(("#", "NAME"))]
-        return "\n".join(rows), "\n".join([*done.told(refusals_alone=False), ""])
+        return "\n".join(rows), "\n".join([*done.told(is_quiet=False), ""])
 
 
 class Columns(Reading):

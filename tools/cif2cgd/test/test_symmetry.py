@@ -36,7 +36,7 @@ def rows(done: Conversion) -> str:
 
 
 def told(done: Conversion) -> str:
-    return "\n".join(done.told(refusals_alone=False))
+    return "\n".join(done.told(is_quiet=False))
 
 
 class Signs(unittest.TestCase):

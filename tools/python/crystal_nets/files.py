@@ -2,6 +2,7 @@
 
 from __future__ import annotations
 
+import codecs
 import contextlib
 import errno
 import fcntl
@@ -22,6 +23,9 @@ if TYPE_CHECKING:
 
 STANDARD_OUTPUT = "standard output"
 GZIP = b"\x1f\x8b"
+MARKS = {codecs.BOM_UTF32_LE: "UTF-32", codecs.BOM_UTF32_BE: "UTF-32",  # before those of UTF-16, which begin alike
+         codecs.BOM_UTF16_LE: "UTF-16", codecs.BOM_UTF16_BE: "UTF-16"}
+WITHOUT_MARK = {b"\1\0\0\0": "UTF-32LE", b"\0\0\0\1": "UTF-32BE", b"\1\0\1\0": "UTF-16LE", b"\0\1\0\1": "UTF-16BE"}
 AHEAD = 65_536  # bytes of a file that are read ahead: by these a structure without its ending is told
 NO_FILE = "it is no file, but a pipe, a device or a folder"
 
@@ -108,20 +112,59 @@ def _is_at(file: io.BufferedWriter, path: Path) -> bool:
         return False
 
 
+def encoding_of(beginning: bytes) -> str:
+    """UTF-16 or UTF-32, where a text begins so: with a byte order mark, or with NULs as such texts have them, of which the
+    order is told too. Empty for all others, which are read as they are."""
+    for mark, name in MARKS.items():
+        if beginning.startswith(mark):
+            return name
+    return WITHOUT_MARK.get(bytes(byte != 0 for byte in beginning[:4]), "")
+
+
+def in_plain_bytes(content: bytes, what: str) -> bytes:
+    """A text in UTF-8 where it has the byte order mark of UTF-16 or UTF-32, and any other as it is. NotANet, which names
+    it and how it is turned, where it is none or has no mark."""
+    encoding = encoding_of(content)
+    if not encoding:
+        return content
+    if encoding not in MARKS.values():
+        raise NotANet(f"{what} is in {encoding}, without a byte order mark; `iconv -f {encoding} -t UTF-8` makes a text of it "
+                      "that is read")
+    try:
+        return content.decode(encoding).encode()
+    except UnicodeError as fault:
+        raise NotANet(f"{what} begins as {encoding}, and is damaged: {fault}") from None
+
+
+def told_encoding(beginning: bytes) -> str:
+    """For what reads no other encoding: which one it is, behind a reason; nothing where it is none of these."""
+    encoding = encoding_of(beginning)
+    return f"; it is in {encoding}, and `iconv -f {encoding} -t UTF-8` makes a text that is read" if encoding else ""
+
+
 @contextlib.contextmanager
 def opened_plain(file: str, as_it_is: bool = False) -> Iterator[io.BufferedReader]:
-    """The bytes of a file, or of standard input; without gzip, unless they are wanted as they are. NotANet where what
-    is packed is damaged."""
+    """The bytes of a file, or of standard input; without gzip and in UTF-8, unless they are wanted as they are. NotANet
+    where what is packed is damaged, or is in another encoding that is not read."""
     raw = io.FileIO(0, closefd=False) if file == "-" else io.FileIO(file)
     with io.BufferedReader(raw, AHEAD) as source:
-        if as_it_is or not source.peek(len(GZIP)).startswith(GZIP):
+        if as_it_is:
             yield source
-            return
-        try:
-            with gzip.GzipFile(fileobj=source) as packed:
-                yield io.BufferedReader(cast(io.RawIOBase, packed), AHEAD)
-        except (gzip.BadGzipFile, EOFError, zlib.error) as fault:
-            raise NotANet(f"{file} is packed by gzip, and damaged: {fault}") from None
+        elif not source.peek(len(GZIP)).startswith(GZIP):
+            yield _in_plain_bytes(source, file)
+        else:
+            try:
+                with gzip.GzipFile(fileobj=source) as packed:
+                    yield _in_plain_bytes(io.BufferedReader(cast(io.RawIOBase, packed), AHEAD), file)
+            except (gzip.BadGzipFile, EOFError, zlib.error) as fault:
+                raise NotANet(f"{file} is packed by gzip, and damaged: {fault}") from None
+
+
+def _in_plain_bytes(source: io.BufferedReader, file: str) -> io.BufferedReader:
+    """The same bytes in UTF-8; a text in another encoding is read as a whole."""
+    if not encoding_of(source.peek(4)):
+        return source
+    return io.BufferedReader(cast(io.RawIOBase, io.BytesIO(in_plain_bytes(source.read(), file))), AHEAD)
 
 
 class TellingFile(io.FileIO):

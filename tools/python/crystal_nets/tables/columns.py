@@ -9,7 +9,7 @@ from typing import TYPE_CHECKING
 
 from ..answers import OF_TOPOLOGY
 from ..errors import NotATable, PackageMissing, lacking
-from ..files import checked_path
+from ..files import checked_path, told_encoding
 from ..texts.row_text import ESCAPES
 
 if TYPE_CHECKING:
@@ -84,7 +84,8 @@ def _checked_columns(file: Path) -> tuple[str, ...]:
         head = next(lines, b"")
         columns = columns_of(head == line_of(WITH_TOPOLOGY))
         if head != line_of(columns):
-            raise NotATable(f"{file} is no table of net_table: its first line has not the names of the columns")
+            raise NotATable(f"{file} is no table of net_table: its first line has not the names of the columns"
+                            + told_encoding(head))
         for number, line in enumerate(lines, start=2):
             if line.count(b"\t") != len(columns) - 1 or not line.endswith(b"\n"):
                 raise NotATable(f"{file}: line {number} is no row of a table, or is cut: {line[:60]!r}")

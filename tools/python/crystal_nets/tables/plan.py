@@ -13,7 +13,7 @@ from pathlib import Path
 from typing import Any, NamedTuple, NoReturn
 
 from ..errors import in_words
-from ..files import GZIP, walked
+from ..files import GZIP, encoding_of, walked
 from ..reading import holds_structure, is_known
 from ..texts.net_text import chunks_of
 
@@ -46,7 +46,7 @@ def has_topology(settings: dict[str, Any]) -> bool:
 
 
 class Portion(NamedTuple):
-    """What a piece has of a file. Of a structure, and of what is packed by gzip, it is all; of a text so many bytes from an
+    """What a piece has of a file. Of a structure, and of what is packed by gzip or in another encoding, it is all; of a text so many bytes from an
     offset on, and whether an item of key lines stands before them. The sum tells whether they are the bytes that were
     planned."""
 
@@ -210,10 +210,10 @@ def portions_of(files: list[Path], most_blocks: int) -> Iterator[tuple[Portion, 
 
 
 def _is_whole(file: Path) -> bool:
-    """Whether a file is read as a whole: a structure, and what is packed by gzip."""
+    """Whether a file is read as a whole: a structure, and what is packed by gzip or in another encoding."""
     with open(file, "rb") as content:
         beginning = content.read(BEGINNING)
-    return beginning.startswith(GZIP) or holds_structure(beginning, file.name)
+    return beginning.startswith(GZIP) or bool(encoding_of(beginning)) or holds_structure(beginning, file.name)
 
 
 def _portions_of_text(file: Path, most_blocks: int) -> Iterator[tuple[Portion, int]]:

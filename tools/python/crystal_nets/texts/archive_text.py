@@ -9,6 +9,7 @@ import re
 from collections.abc import Callable, Iterable, Iterator
 from dataclasses import dataclass, field
 
+from ..files import told_encoding
 from ..graph import Edge, QuotientGraph
 from .net_text import GREATEST_SHIFT, MOST_EDGES, MOST_SHELLS, MOST_VERTICES, NoReport, key_numbers
 
@@ -49,7 +50,7 @@ def entries_of(lines: Iterable[bytes], file: str) -> Iterator[Entry]:
             yield entry
     except ValueError:
         raise NoReport(f"{file}: line {reader.count} may not stand in an archive, or is cut: "
-                       f"{reader.last[:60]!r}") from None
+                       f"{reader.last[:60]!r}{told_encoding(reader.last)}") from None
 
 
 class Reader:

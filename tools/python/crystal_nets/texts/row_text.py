@@ -9,6 +9,7 @@ import re
 from collections.abc import Iterable, Iterator
 from dataclasses import dataclass
 
+from ..files import told_encoding
 from .net_text import NetReport, NoReport, key_numbers
 
 FIELDS = ("number", "line", "name", "outcome", "dimension", "vertices", "edges", "classes", "D0", "key",
@@ -61,7 +62,7 @@ def rows_of(lines: Iterable[bytes], file: str) -> Iterator[Row]:
     for count, line in enumerate(lines, start=1):
         found = ROW.fullmatch(line)
         if found is None:
-            raise NoReport(f"{file}: line {count} is no row of net_rows, or is cut: {line[:60]!r}")
+            raise NoReport(f"{file}: line {count} is no row of net_rows, or is cut: {line[:60]!r}{told_encoding(line)}")
         number, name, outcome, dimension, key, command = found.groups()
         if command not in (b"", *WITH_KEYS):
             raise NoReport(f"{file}: line {count} is a row of {command.decode()}, which gives no keys")

@@ -62,9 +62,7 @@ def text_of_file(content: bytes) -> str:
 
 
 def _decoded(content: bytes) -> str:
-    """The text by its byte order mark, or else as UTF-8, or else as Windows has it."""
-    if content.startswith((codecs.BOM_UTF16_LE, codecs.BOM_UTF16_BE)):
-        return content.decode("utf-16", errors="replace")
+    """The text without a byte order mark, as UTF-8, or else as Windows has it."""
     plain = content.removeprefix(codecs.BOM_UTF8)
     try:
         return plain.decode()
