@@ -165,6 +165,12 @@ hint_of_archive() {
     echo "net_tool: no archive was asked, so no net has a name; try --archive $archives/common.archive" >&2
 }
 
+# says that a key goes on in a line that union does not read
+hint_of_keys() {
+    [ "$command_given" = union ] && has_line '^[[:blank:]]*[-+]?[0-9]' "$file" || return 0
+    echo "net_tool: a number begins a line of ${file_given:-standard input}: union reads no key further than its line; cgd2net tells which go on" >&2
+}
+
 # Says what to do with a file that has no net that the command reads. A file is only looked at where it can be read
 # again; of a pipe nothing is said.
 hint() {
@@ -178,10 +184,17 @@ hint() {
     '' | -) file=/dev/stdin ;;
     esac
     if [ ! -f "$file" ] || has_line "$wants" "$file"; then
+        [ ! -f "$file" ] || hint_of_keys
         hint_of_archive
         return 0
     fi
-    if has_line '^[[:blank:]]*(data_|_cell_length_a|loop_)' "$file"; then
+    case $(LC_ALL=C head -c 2 -- "$file" | od -An -tx1) in
+    ' ff fe' | ' fe ff') is_utf16=1 ;;
+    *) is_utf16= ;;
+    esac
+    if [ -n "$is_utf16" ]; then
+        told="it is in UTF-16; cgd2net and cif2cgd read it, and 'iconv -f UTF-16 -t UTF-8' makes a text that is read"
+    elif has_line '^[[:blank:]]*(data_|_cell_length_a|loop_)' "$file"; then
         told="it looks like a CIF; cif2cgd makes nets of it"
     elif has_line '^[[:blank:]]*PERIODIC_GRAPH' "$file"; then
         told="it has no key lines, but blocks PERIODIC_GRAPH, which union does not take; add does"

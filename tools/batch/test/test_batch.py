@@ -9,6 +9,8 @@ from collections import defaultdict
 from odd_cells import text_of_odd_nets
 from testing import IS_LONG, PROGRAM, TOOLS, TOP, FolderTest, need_commands, need_modules, need_program, run
 
+from crystal_nets.batch.net_names import blocks_of_pieces
+
 BATCH = TOOLS / "batch"
 ARCHIVE = TOP / "archives/common.archive"
 COUNT = 10_000 if IS_LONG else 600
@@ -215,6 +217,40 @@ class Texts(FolderTest):
             self.assertEqual([" ".join(row[1:4]) for row in index], wanted)
             self.assertEqual([row[0] for row in index], [f"p{k + 1:05}.arc" for k in range(len(index))])
             self.assertEqual(b"".join((folder / row[0]).read_bytes() for row in index), KEY_LINES)
+
+    def test_a_key_in_several_lines_is_told(self):
+        """`union` reads the first line of a key, and so another net."""
+        items, archive, report = self.folder / "nets.arc", self.folder / "empty", self.folder / "report"
+        archive.write_bytes(b"net_archive 2\n")
+        items.write_bytes(b"key 2 1 1 1 0 1 1 0 1\n  1 1 1 1\n id hxl\nend\nkey 2 1 1 1 0 1 1 0 1\n id sql\nend\n")
+        united = run(PROGRAM, "union", items, "--archive", archive).stdout
+        self.assertEqual(united.count(b"\nedge "), 4)
+        report.write_bytes(b"".join(
+            b'net %d line %d "%s"\ngraph d=2 vertices=1 edges=2 repeats=0\nkey 2 1 1 1 1 0 1 1 1 1 0\n' % net
+            for net in ((1, 1, b"hxl"), (2, 5, b"sql"))))
+        done = run(BATCH / "accepted_nets", report, items)
+        self.assertEqual(done.stdout, items.read_bytes().partition(b"end\n")[2])
+        self.assertEqual(done.stderr, b'line 1 "hxl": line 2: numbers begin a line: a key is one line\n')
+        done = run(BATCH / "split_nets", "--as-it-is", items, self.folder / "pieces", status=1)
+        self.assertIn(b"nets.arc: line 1: line 2: numbers begin a line", done.stderr)
+        self.assertEqual((self.folder / "pieces/p00001.arc").read_bytes(), items.read_bytes())
+
+    def test_a_stray_line_hides_no_block(self):
+        """The pieces have an END behind it, and as the file is they are numbered as the program reads them."""
+        square = b"PERIODIC_GRAPH\nNAME \"%s\"\nEDGES\n1 1 1 0\n1 1 0 1\nEND\n"
+        cubes = b"PERIODIC_GRAPH\nNAME c\nEDGES\n" + b"1 1 1 0 0\n1 1 0 1 0\n1 1 0 0 1\nEND\n"
+        self.file.write_bytes(b"stray\n" + square % b"a" + b"PERIODIC_GRAPH of cubes\n" + cubes)
+        pieces, whole = self.folder / "pieces", self.folder / "whole"
+        done = run(BATCH / "split_nets", self.file, pieces, status=1)
+        self.assertEqual(done.stderr.count(b" is not read"), 2)
+        run(BATCH / "key_piece", pieces, 1)
+        rows = fields((pieces / "p00001.cgd.rows").read_bytes())
+        self.assertEqual([(row[1], row[2], row[3]) for row in rows], [
+            (b"1", b"", b"unsupported"), (b"2", b"a", b"accepted"), (b"8", b"", b"malformed 1 BadToken"), (b"9", b"c", b"accepted")])
+        run(BATCH / "split_nets", "--as-it-is", self.file, whole)
+        numbered = list(blocks_of_pieces(whole))
+        self.assertEqual([number for number, _ in numbered], [1, 2])
+        self.assertEqual(b"".join(block for _, block in numbered), self.file.read_bytes())
 
     def test_json_has_what_the_rows_have(self):
         report = run(PROGRAM, "identify", TOP / "examples/mystery.cgd", "--archive", ARCHIVE).stdout

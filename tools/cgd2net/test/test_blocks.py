@@ -250,8 +250,9 @@ class Texts(FolderTest):
         for name in ("common.cgd", "zeolites.cgd"):
             text = (TOP / "archives" / name).read_bytes()
             self.assertEqual(converted(text), (text, []))
-        text = b"OTHER thing\n CRYSTAL\n NODE 1\nEND\n\n# CRYSTAL\n\"CRYSTAL\"\nEND x\nEND\n"
-        self.assertEqual(converted(text), (text, []))
+        text = b"OTHER thing\n CRYSTAL class\n NODE 1\nEND\n\n# CRYSTAL\n\"CRYSTAL\"\nEND x\nEND\n"
+        stayed, told = converted(text)
+        self.assertEqual((stayed, len(told)), (text, 2))
 
     def test_items_of_key_lines(self):
         self.assertEqual(self.names(ITEMS), ["dia"])

@@ -109,7 +109,7 @@ class Collections(FolderTest):
         self.assertEqual(entries(self.folder / "nets.archive"), ["pcu"])
         told = (self.folder / "nets.refused").read_text().splitlines()
         self.assertEqual([line.removeprefix(f"{file}: line ") for line in told], [
-            "1: a block 'OTHER block' is not read",
+            "1 \"\": refused: a block 'OTHER block' is not read, up to line 2",
             '3 "none": refused: there are no nodes',
             '6 "": PERIODIC_GRAPH: it has no name',
             f'15 "pcu": CRYSTAL: it is another net than {file} line 10 (CRYSTAL), which has its name',

@@ -3,13 +3,15 @@
 import gzip
 import io
 
-from testing import TOOLS, FolderTest, need_modules, run
+from testing import PROGRAM, TOOLS, FolderTest, need_modules, need_program, run
 
 need_modules("gemmi", "numpy", "scipy")
+from crystal_nets.blocks.collection import Collector  # noqa: E402
 from crystal_nets.blocks.converter import Converter  # noqa: E402
+from crystal_nets.errors import NotANet  # noqa: E402
 from crystal_nets.graph import QuotientGraph  # noqa: E402
 from crystal_nets.provenance import DOUBT, DROPPED, REFUSED  # noqa: E402
-from crystal_nets.reading import nets_of_cgd  # noqa: E402
+from crystal_nets.reading import nets_of_cgd, read  # noqa: E402
 
 COMMAND = TOOLS / "cgd2net/cgd2net"
 TRIANGLES = "key 2 1 1 1 0 1 1 0 1 1 1 1 1\n  version 1.0\n  id hxl\n  checksum 0\nend\n"
@@ -41,6 +43,97 @@ def graph_of(text: str | bytes) -> QuotientGraph:
 
 def rows_of(graph: QuotientGraph) -> tuple[int, list[tuple[int, int, tuple[int, ...]]]]:
     return len(graph.vertices), [(edge.u, edge.v, edge.shift) for edge in graph.edges]
+
+
+class Strays(FolderTest):
+    """Lines between blocks that open none."""
+
+    BLOCKS = (GRAPH.format(1, 2, 3, name="NAME next\n"), TRIANGLES.replace("hxl", "next"),
+              "CRYSTAL\nNAME next\nGROUP Pm-3m\nCELL 1 1 1 90 90 90\nNODE V 6 0 0 0\nEND\n")
+    STRAYS = ("stray", "Nets of a friend\n  and more", "OTHER\n NODE 1\n ID 5")
+    OPENINGS = ("NET of diamond", "PERIODIC_GRAPH of diamond", "CRYSTAL structures:\n ID 5")
+
+    def test_the_next_block_is_read(self):
+        texts = [(f"{stray}\n{block}", stray) for block in self.BLOCKS for stray in self.STRAYS]
+        texts += [(f"{stray}\n{block}", stray) for block in self.BLOCKS[::2] for stray in self.OPENINGS]
+        for text, stray in texts:
+            first, second = nets_of_cgd(text)
+            self.assertIn(f"line 1: a block {stray.partition(chr(10))[0]!r} is not read", first.refusal, text)
+            self.assertEqual((second.name, second.refusal, second.provenance.line), ("next", "", 2 + stray.count("\n")), text)
+            (kind, line), *_ = told_of(text)
+            self.assertEqual((kind, line.startswith('x: line 1 "')), (REFUSED, True), text)
+
+    def test_a_block_of_another_kind_lasts_up_to_its_end(self):
+        text = "OTHER\n NODE 1\n CRYSTAL system\n key words\nEND\n"
+        self.assertEqual(told_of(text), [(REFUSED, "x: line 1 \"\": refused: a block 'OTHER' is not read, up to line 5")])
+        self.assertEqual([net.refusal for net in nets_of_cgd(text)], ["line 1: a block 'OTHER' is not read, up to line 5"])
+        self.assertEqual(run(COMMAND, "-", stdin=text.encode(), status=1).stdout, text.encode())
+
+    def test_the_program_reads_it_too(self):
+        need_program()
+        for stray in (*self.STRAYS, *self.OPENINGS):
+            text = f"{stray}\n{self.BLOCKS[0]}".encode()
+            self.assertNotIn(b"\ngraph ", run(PROGRAM, "check", "-", stdin=text, status=1).stdout)
+            turned = run(COMMAND, "--quiet", "-", stdin=text, status=1)
+            self.assertIn(b' "next"\ngraph d=3 ', run(PROGRAM, "check", "-", stdin=turned.stdout, status=None).stdout)
+            self.assertIn(b': line 1 "', turned.stderr)
+
+    def test_keys_of_an_archive_are_no_items(self):
+        text = b'net_archive 1\nentry "a"\ngraph 2 1 2\nedge 1 1 0 1\nedge 1 1 1 0\nkey 2 1 1 1 1 0 1 1 1 1 0\nend\n'
+        self.assertEqual([line for _, line in told_of(text)],
+                         ["x: line 1 \"\": refused: a block 'net_archive 1' is not read, up to line 7"])
+
+    def test_a_graph_without_its_end_is_in_no_archive_and_is_told(self):
+        refused: list[str] = []
+        Collector("x", refused).convert(io.BytesIO(self.BLOCKS[0].replace("END\n", "").encode()))
+        self.assertEqual(refused, ['x: line 1 "next": refused: there is no END'])
+
+
+class Doubts(FolderTest):
+    """What is told of a net that may be another one."""
+
+    TEXT = CRYSTAL.format(name="NAME y\n", node="B").replace("8", "6").encode()
+
+    def test_quiet_tells_them(self):
+        loud, quiet = (run(COMMAND, *words, "-", stdin=self.TEXT).stderr for words in ((), ("--quiet",)))
+        self.assertIn(b"edges are by distance, and the net is not connected", quiet)
+        self.assertEqual(quiet, loud)
+
+    def test_archives_tell_them(self):
+        refused: list[str] = []
+        collector = Collector("x", refused)
+        collector.convert(io.BytesIO(self.TEXT))
+        self.assertIn("the net is not connected", "".join(collector.told))
+
+
+class Encodings(FolderTest):
+    """Texts in UTF-16 and UTF-32 are those in UTF-8."""
+
+    TEXT = GRAPH.format('"\u00e4"', 2, 3, name='NAME "\u00e4"\n') + "CRYSTAL\nNAME y\nEND\n"
+
+    def test_they_are_read_by_their_mark(self):
+        wanted = run(COMMAND, "-", stdin=self.TEXT.encode(), status=1)
+        for encoding in ("utf-16", "utf-32", "utf-8-sig"):
+            content = self.TEXT.encode(encoding)
+            for text in (content, gzip.compress(content)):
+                done = run(COMMAND, "-", stdin=text, status=1)
+                self.assertEqual((done.stdout, done.stderr), (wanted.stdout, wanted.stderr), encoding)
+            self.assertEqual([net.name for net in read(content)], ["\u00e4", "y"])
+        content = b"\xfe\xff" + self.TEXT.encode("utf-16-be")
+        self.assertEqual([net.name for net in read(content)], ["\u00e4", "y"])
+
+    def test_what_has_no_mark_is_told(self):
+        for encoding in ("UTF-16LE", "UTF-16BE", "UTF-32LE", "UTF-32BE"):
+            content = self.TEXT.encode(encoding)
+            done = run(COMMAND, "-", stdin=content, status=1)
+            self.assertEqual(done.stdout, b"")
+            self.assertIn(f"- is in {encoding}, without a byte order mark; `iconv -f {encoding} -t UTF-8`", done.stderr.decode())
+            with self.assertRaisesRegex(NotANet, f"iconv -f {encoding} "):
+                read(content)
+
+    def test_one_that_is_cut_is_told(self):
+        done = run(COMMAND, "-", stdin=self.TEXT.encode("utf-16")[:-1], status=1)
+        self.assertIn(b"- begins as UTF-16, and is damaged", done.stderr)
 
 
 class Keys(FolderTest):

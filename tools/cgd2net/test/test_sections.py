@@ -115,7 +115,7 @@ class Words(FolderTest):
         collector = Collector("x", refused)
         collector.convert(io.BytesIO(CSCL.format("V1").replace("END", "\tTD10 5\nEND").encode()))
         self.assertEqual((len(collector.nets), refused), (1, []))
-        self.assertEqual(collector.dropped, ['x: line 1 "CsCl": line 10: TD10 is passed over, with 1 row'])
+        self.assertEqual(collector.told, ['x: line 1 "CsCl": line 10: TD10 is passed over, with 1 row'])
 
     def test_a_node_that_is_not_known_is_refused(self):
         for row, line in (("Zink 1/2 1/2 1/2", 8), ("1/2 1/2 1/2 Zink", 8), ("Zink {0}", 8), ("{0} Zink", 8), ("Zink Zink", 8)):

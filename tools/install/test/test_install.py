@@ -102,9 +102,10 @@ class Installed(FolderTest):
         examples, archive = self.share / "examples", self.share / "archives/common.archive"
         (self.folder / "x.arc").write_text("key 2 1 1 1 0 1 1 0 1\n id x\nend\n")
         (self.folder / "empty").touch()
+        (self.folder / "wide.cgd").write_text((examples / "sql.cgd").read_text(), encoding="utf-16")
         for file, word in ((examples / "quartz.cif", "cif2cgd"), (examples / "embedded.cgd", "cgd2net"),
                            (archive, "archive_nets"), (examples / "twice.maps", "verify"),
-                           (self.folder / "x.arc", "union"), (self.folder / "empty", "no block")):
+                           (self.folder / "x.arc", "union"), (self.folder / "empty", "no block"), (self.folder / "wide.cgd", "UTF-16")):
             for words in (f"check {file}", f"check < {file}", f"identify --archive {archive} {file}"):
                 output, said = self.told(f"net_tool {words}", None)
                 self.assertIn(word, said, words)
@@ -247,6 +248,13 @@ class InFront(FolderTest):
         self.assertIn("no key lines, but blocks PERIODIC_GRAPH", said)
         self.assertEqual(run(self.folder / "prefix/bin/net_tool", "union", "--archive=x",
                              TOOLS.parent / "archives/common.archive").stderr, b"")
+
+    def test_a_union_of_keys_in_several_lines(self):
+        items = self.folder / "x.arc"
+        for text, count in (("key 2 1 1 1 0 1 1 0 1\n id x\nend\n", 0), ("key 2 1 1 1 0\n 1 1 0 1\n id x\nend\n", 1)):
+            items.write_text(text)
+            said = self.run_program("echo net_archive 2", "union", items, "--archive", "x", status=0)
+            self.assertEqual((said.count("\n"), said.count("union reads no key further than its line")), (count, count))
 
     def test_the_status_is_that_of_the_program(self):
         for status, said in ((0, ""), (5, ""), (7, "memory was refused"), (9, ""), (11, "")):

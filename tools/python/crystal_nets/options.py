@@ -17,7 +17,8 @@ ModeName = Literal["", "zeolite", "intermetallic"]
 WayName = Literal["rules", "file", "both"]
 CHOICES = {"mode": get_args(ModeName), "bonds": get_args(WayName)}
 LONGEST_BOND = 20.0  # angstrom
-STRUCTURE_PACKAGES = "apt-get install python3-gemmi python3-numpy python3-scipy python3-spglib"
+STRUCTURE_PACKAGES = "apt-get install python3-gemmi python3-numpy python3-scipy"
+BLOCK_PACKAGES = "apt-get install python3-gemmi python3-numpy"
 
 
 class StructureOptions(TypedDict, total=False):
@@ -112,7 +113,7 @@ def _is_element(word: str) -> bool:
     try:
         import gemmi
     except ModuleNotFoundError as missing:
-        raise PackageMissing(f"elements: {lacking(missing, STRUCTURE_PACKAGES)}") from missing
+        raise PackageMissing(f"elements: {lacking(missing, 'apt-get install python3-gemmi')}") from missing
     element = gemmi.Element(word)
     return bool(element.atomic_number > 0 and element.name == word)
 

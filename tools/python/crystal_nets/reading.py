@@ -15,13 +15,13 @@ from pathlib import Path, PurePath
 from typing import TYPE_CHECKING, Any, Unpack
 
 from .errors import NotANet, PackageMissing, lacking
-from .files import GZIP, checked_path, content_of_file
+from .files import GZIP, checked_path, content_of_file, in_plain_bytes
 from .net import TOO_LONG, Net
 from .other_forms import is_json, is_poscar, is_structure, structure_of_fields, structure_of_json
-from .options import STRUCTURE_PACKAGES, StructureOptions, check_names, checked_options
+from .options import BLOCK_PACKAGES, STRUCTURE_PACKAGES, StructureOptions, check_names, checked_options
 from .provenance import REFUSED, Note, notes_of
-from .texts.net_text import (BYTE_ORDER_MARK, FIRST_TOKEN, HEADER, MOST_BYTES, OTHER_TEXTS, Chunk, chunks_of,
-                             first_word)
+from .texts.net_text import (BYTE_ORDER_MARK, FIRST_TOKEN, HEADER, MOST_BYTES, OPENERS, OTHER_TEXTS, Chunk, chunks_of,
+                             first_word, told_of_stray)
 
 if TYPE_CHECKING:
     import networkx
@@ -143,9 +143,10 @@ def _suffix_of(file: str) -> str:
 
 
 def unpacked(content: bytes, file: str, most: int = MOST_UNPACKED) -> tuple[bytes, str]:
-    """The content and the name without gzip. NotANet where it is cut, or has more than so many bytes."""
+    """The content without gzip and in UTF-8, and the name without gzip. NotANet where it is cut, has more than so many
+    bytes, or is in another encoding that is not read."""
     if not content.startswith(GZIP):
-        return content, file
+        return in_plain_bytes(content, "the file"), file
     try:
         with gzip.open(BytesIO(content)) as packed:
             plain = packed.read(most + 1)
@@ -153,7 +154,7 @@ def unpacked(content: bytes, file: str, most: int = MOST_UNPACKED) -> tuple[byte
         raise NotANet(f"the file is packed by gzip, and damaged: {fault}") from None
     if len(plain) > most:
         raise NotANet(f"the file has more than {most >> 20} MB, unpacked")
-    return plain, file[:-3] if file.lower().endswith(".gz") else file
+    return in_plain_bytes(plain, "the file"), file[:-3] if file.lower().endswith(".gz") else file
 
 
 def _options_for(file: str, options: Mapping[str, object]) -> Mapping[str, object]:
@@ -190,12 +191,12 @@ def _content_of(source: str | bytes | os.PathLike[str]) -> tuple[bytes, str]:
 
 
 @contextmanager
-def _packages_of(what: str) -> Iterator[None]:
+def _packages_of(what: str, advice: str = STRUCTURE_PACKAGES) -> Iterator[None]:
     """PackageMissing with what to install, where a package of Python is not there."""
     try:
         yield
     except ModuleNotFoundError as missing:
-        raise PackageMissing(f"{what}: {lacking(missing, STRUCTURE_PACKAGES)}") from missing
+        raise PackageMissing(f"{what}: {lacking(missing, advice)}") from missing
 
 
 def nets_of_cgd(source: str | bytes | os.PathLike[str]) -> list[Net]:
@@ -220,13 +221,15 @@ def _net_of_chunk(chunk: Chunk) -> Net:
         raise NotANet(f"line {chunk.opening_line} begins {kind}")
     if chunk.size > MOST_BYTES:
         return Net.refused(f"line {chunk.opening_line}: {TOO_LONG}")
+    if chunk.is_stray and (first_word(lines[0]) not in OPENERS or not is_ended(lines)):
+        return Net.refused(f"line {chunk.opening_line}: {told_of_stray(chunk.opening_line, len(lines), lines[0])}")
     if not is_ended(lines):
         return Net.refused(f"line {chunk.opening_line}: the block has no END", name_of_block(lines))
     text = b"".join(lines)
     text = text if text.endswith(b"\n") else text + b"\n"
     if word.startswith(b"PERIODIC_GRAPH") and PLAIN_BLOCK.fullmatch(text):
         return Net._of(text, name_of_block(lines))
-    with _packages_of("a block that is no plain PERIODIC_GRAPH"):
+    with _packages_of("a block that is no plain PERIODIC_GRAPH", BLOCK_PACKAGES):
         return _net_of_block(chunk, lines)
 
 
@@ -235,11 +238,8 @@ def _net_of_block(chunk: Chunk, lines: list[bytes]) -> Net:
     from .blocks.converter import KINDS, MOST_LINES, Block, net_of_block
     from .blocks.converter import MOST_BYTES as MOST_OF_A_BLOCK
     from .refusal import Refused
-    kind = KINDS.get(first_word(lines[0]), "")
+    kind = KINDS[first_word(lines[0])]
     block = Block(kind, chunk.opening_line, lines, chunk.size)
-    if not kind:
-        opening = lines[0].strip()[:40].decode(errors="replace")
-        return Net.refused(f"line {chunk.opening_line}: a block {opening!r} is not read")
     if len(lines) > MOST_LINES or chunk.size > MOST_OF_A_BLOCK:
         return Net.refused(f"line {chunk.opening_line}: more than {MOST_LINES} lines, or {MOST_OF_A_BLOCK} bytes")
     notes: list[str | Note] = []
@@ -259,7 +259,7 @@ def is_plain(chunk: Chunk) -> bool:
     """Whether the program reads a block as it stands. One PERIODIC_GRAPH that is broken otherwise than by words of other
     programs is for the program to tell."""
     lines = chunk.block_lines
-    if first_word(lines[0]) != b"PERIODIC_GRAPH":
+    if first_word(lines[0]) != b"PERIODIC_GRAPH" or chunk.is_stray:
         return False
     text = b"".join(lines)
     return not is_ended(lines) or PLAIN_BLOCK.fullmatch(text if text.endswith(b"\n") else text + b"\n") is not None

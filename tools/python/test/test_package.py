@@ -12,7 +12,7 @@ import unittest
 
 from testing import PROGRAM, TOOLS, FolderTest, long_test, need_modules, need_program, run
 
-from crystal_nets import commands
+from crystal_nets import commands, options
 
 FOLDER = TOOLS / "python"
 PACKAGE = FOLDER / "crystal_nets"
@@ -39,6 +39,17 @@ class Imports(unittest.TestCase):
                 "assert len(c.group(nets)) == 1 and c.same(*nets) and c.identify(nets[0], archive=None).accepted\n"
                 "print(*({'numpy', 'gemmi', 'scipy', 'pandas', 'networkx'} & set(sys.modules)))")
         self.assertEqual(run(sys.executable, "-I", "-c", code, NET_TOOL=PROGRAM).stdout, b"\n")
+
+    def test_what_is_advised_is_what_is_loaded(self):
+        """Where a package is missing, no other is named than those that are needed."""
+        need_modules("gemmi", "numpy", "scipy")
+        for modules, advised, by_command in (
+                ("structures.conversion", options.STRUCTURE_PACKAGES, "cif2cgd"), ("blocks.converter", options.BLOCK_PACKAGES, "cgd2net"),
+                ("blocks.collection", options.BLOCK_PACKAGES, "make_archives")):
+            code = (f"import sys; sys.path.insert(0, {str(FOLDER)!r})\nimport crystal_nets.{modules}\n"
+                    "print(*sorted({'gemmi', 'numpy', 'scipy', 'spglib', 'ase', 'flask'} & set(sys.modules)))")
+            loaded = " ".join(f"python3-{name}" for name in run(sys.executable, "-I", "-c", code).stdout.decode().split())
+            self.assertEqual((advised, commands.PACKAGES[by_command]), (f"apt-get install {loaded}", loaded), modules)
 
     def test_each_module_is_named_in_the_map(self):
         told = (PACKAGE / "__init__.py").read_text()

@@ -10,7 +10,7 @@ import argparse
 import signal
 import sys
 
-from ..texts.net_text import NetReport, NoReport, chunks_as_read, nets_of_report
+from ..texts.net_text import KEY_IS_ONE_LINE, NetReport, NoReport, chunks_as_read, continued_key, nets_of_report
 
 WITHOUT_KEY = tuple(f"refused {number} ".encode() for number in (4, 5, 6, 7))
 
@@ -70,7 +70,8 @@ def main() -> int:
             if asked.without_key:
                 kept += chunk.block_lines if net.told.startswith(WITHOUT_KEY) else []
                 continue
-            reason = choice.reason_against(net)
+            broken = continued_key(chunk)
+            reason = f"line {broken}: {KEY_IS_ONE_LINE}" if broken else choice.reason_against(net)
             if reason:
                 print(f'line {net.line} "{net.name.decode(errors="replace")}": {reason}', file=sys.stderr)
             else:

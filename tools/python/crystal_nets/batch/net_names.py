@@ -21,7 +21,7 @@ from ..program import find_program
 from ..side_by_side import bind_programs, first_of_program
 from ..texts.archive_text import entries_of
 from ..texts.graph_text import plain
-from ..texts.net_text import NoReport, chunks_of
+from ..texts.net_text import NoReport, chunks_as_read
 
 from .pieces import INDEX, index_of, want_rows, whole_rows
 
@@ -113,11 +113,12 @@ def names_without_key(wanted: dict[int, bytes], archives: Path, pieces: Path) ->
 
 
 def blocks_of_pieces(pieces: Path) -> Iterator[tuple[int, bytes]]:
-    """The blocks of the pieces in a folder of split_nets, with their numbers in the whole file."""
+    """The blocks of the pieces in a folder of split_nets, as the program reads them, with their numbers in the whole
+    file."""
     for row in index_of(pieces / INDEX):
         number = row.blocks_before
         with open(pieces / row.piece, "rb") as content:
-            for chunk in chunks_of(content):
+            for chunk in chunks_as_read(content, is_items=False):
                 if chunk.opening_line:
                     number += 1
                     yield number, b"".join(chunk.block_lines)

@@ -20,14 +20,12 @@ from pathlib import Path
 
 from ..files import AHEAD, opened_plain, write_whole
 from ..net import Net
-from ..provenance import DOUBT, DROPPED, LEFT_OUT
-from ..reading import holds_structure, is_plain, net_of_chunk, nets_of_cif
-from ..texts.net_text import (HEADER, ITEM_WORDS, MOST_BLOCKS, MOST_BYTES, OTHER_TEXTS, Chunk, NoReport, chunks_as_read,
-                              chunks_of, first_word)
+from ..provenance import TOLD
+from ..reading import holds_structure, is_ended, is_plain, net_of_chunk, nets_of_cif
+from ..texts.net_text import (HEADER, ITEM_WORDS, KEY_IS_ONE_LINE, MOST_BLOCKS, MOST_BYTES, OTHER_TEXTS, Chunk, NoReport,
+                              chunks_as_read, chunks_of, continued_key, first_word)
 
 from .pieces import INDEX, IndexRow, sum_of_piece
-
-TOLD = (DOUBT, DROPPED, LEFT_OUT)  # the kinds of notes on nets; `cif2cgd` and `cgd2net` tell the others too
 
 
 def words() -> argparse.Namespace:
@@ -81,6 +79,9 @@ class Reader:
             yield from self._of_structures(stream.read())
             return
         for chunk in self._nets_of(chunks_as_read(stream) if as_it_is else chunks_of(stream)):
+            broken = continued_key(chunk) if as_it_is else 0
+            if broken:
+                self._refuse(f"line {chunk.opening_line}", f"line {broken}: {KEY_IS_ONE_LINE}, of which union reads the first")
             if as_it_is or (not has_words_before(chunk) and (not chunk.opening_line or is_plain(chunk))):
                 yield Cut(b"".join(chunk.lines), chunk.opening_line, chunk.first_line - 1)
             elif chunk.opening_line:
@@ -102,7 +103,7 @@ class Reader:
         """The net of a block that the program does not read as it stands; the block itself where it gives none."""
         net = net_of_chunk(chunk)
         self._tell(net, f"line {chunk.opening_line} \"{net.name}\"")
-        text = b"".join(chunk.block_lines) if net.refusal else net.block
+        text = _closed(chunk) if net.refusal else net.block
         return Cut(text, chunk.opening_line, chunk.first_line - 1, True)
 
     def _of_structures(self, content: bytes) -> Iterator[Cut]:
@@ -112,10 +113,26 @@ class Reader:
                 yield Cut(net.block, 1, 0, True)
 
     def _tell(self, net: Net, place: str) -> None:
-        self.failed += bool(net.refusal)
-        told = [net.refusal] * bool(net.refusal) + [note.text for note in net.provenance.notes if note.kind in TOLD]
-        for text in told:
-            print(f"split_nets: {self.file}: {place}: {text}".encode(errors="replace").decode(), file=sys.stderr)
+        if net.refusal:
+            self._refuse(place, net.refusal)
+        for note in net.provenance.notes:
+            if note.kind in TOLD:
+                self._print(place, note.text)
+
+    def _refuse(self, place: str, reason: str) -> None:
+        self.failed += 1
+        self._print(place, reason)
+
+    def _print(self, place: str, text: str) -> None:
+        print(f"split_nets: {self.file}: {place}: {text}".encode(errors="replace").decode(), file=sys.stderr)
+
+
+def _closed(chunk: Chunk) -> bytes:
+    """A block as it stands; one that a stray line opens gets the END that it lacks, so that the program reads the next."""
+    text = b"".join(chunk.block_lines)
+    if not chunk.is_stray or is_ended(chunk.block_lines):
+        return text
+    return text + (b"END\n" if text.endswith(b"\n") else b"\nEND\n")
 
 
 def has_words_before(chunk: Chunk) -> bool:

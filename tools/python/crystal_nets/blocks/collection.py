@@ -20,13 +20,13 @@ from ..errors import NotANet, in_words
 from ..files import opened_plain, write_whole
 from ..net import Net
 from ..program import find_program
-from ..provenance import DROPPED, REFUSED
+from ..provenance import REFUSED, TOLD, Note
 from ..side_by_side import bind_programs, first_of_program
 from ..texts.graph_text import plain
 from ..texts.net_text import MOST_BLOCKS, MOST_BYTES, NetReport, NoReport, nets_of_report
 from ..wide.archive import write_wide_archive
 from .converter import Block, Converter, lines_of
-from .tokens import decoded, shown
+from .tokens import decoded
 
 DONE, SOME_REFUSED, FAILED = 0, 1, 3
 PIECE = 200            # nets whose keys are asked for at a time
@@ -64,11 +64,10 @@ class Collector(Converter):
     """Keeps the blocks of a text, and why others are refused."""
 
     def __init__(self, source: str, refused: list[str]) -> None:
-        super().__init__(source, self.pass_over, self.hear)
+        super().__init__(source, len, self.hear)  # what is written beside the nets is not kept
         self.nets: list[ListedNet] = []
         self.refusals = refused
-        self.dropped: list[str] = []
-        self.was_passing = False
+        self.told: list[str] = []
 
     def put(self, block: Block, text: bytes) -> None:
         self.nets.append(ListedNet(self.source, block.line, block.kind, b"", text))
@@ -76,15 +75,11 @@ class Collector(Converter):
     def hear(self, text: str, kind: str) -> None:
         if kind == REFUSED:
             self.refusals.append(text)
-        elif kind == DROPPED:
-            self.dropped.append(text)
+        elif kind in TOLD:
+            self.told.append(text)
 
-    def pass_over(self, text: bytes) -> None:
-        """Takes what is written beside the nets; the first line of a block of another kind is told."""
-        if self.is_passing and not self.was_passing:
-            opening = shown(decoded(text).strip())
-            self.refusals.append(f"{self.source}: line {self.number}: a block {opening} is not read")
-        self.was_passing = self.is_passing
+    def stay(self, block: Block, reason: str) -> None:
+        self.tell(block, Note(REFUSED, f"refused: {reason}"))
 
 
 def run(program: str, command: str, text: bytes) -> tuple[int, bytes]:
@@ -107,7 +102,7 @@ def read_nets(files: list[str], refused: list[str]) -> list[ListedNet]:
                     collector.push(line, is_rest)
                     bar.step(len(line))
             collector.finish()
-            bar.tell([plain(line) for line in collector.dropped])
+            bar.tell([plain(line) for line in collector.told])
             nets += collector.nets
     return nets
 

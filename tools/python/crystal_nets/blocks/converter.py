@@ -10,7 +10,7 @@ from ..net import Net
 from ..provenance import DROPPED, REFUSED, Note, notes_of
 from ..refusal import Refused
 from ..texts.graph_text import plain
-from ..texts.net_text import BYTE_ORDER_MARK, first_word, opens_block
+from ..texts.net_text import BYTE_ORDER_MARK, ends_stray, first_word, is_stray, opens_block, told_of_stray
 
 from .crystal import Fields, crystal_of
 from .expansion import net_of_crystal_block
@@ -23,6 +23,8 @@ from .tokens import decoded, number_of, shown, tokens_of
 MOST_LINES = 40_000
 MOST_BYTES = 1 << 22
 LONGEST_LINE = 1 << 20
+NO_END = "there is no END"
+MORE_WORDS = "more words than {} stand in the line that opens the block"
 TOO_LONG = f"more than {MOST_LINES} lines, {MOST_BYTES} bytes, or {LONGEST_LINE} bytes in a line"
 USED = {"CRYSTAL": ("NAME", "GROUP", "OPERATION", "CELL", "NODE", "EDGE"),  # the keywords whose rows make the net
         "TILING": ("NAME", "GROUP", "OPERATION", "CELL", "NODE", "FACE"),
@@ -39,6 +41,7 @@ class Block:
     line: int  # of the file, that opens it
     lines: list[bytes] = field(default_factory=list)
     size: int = 0
+    is_stray: bool = False  # whether its first line has more than the word of its kind
 
     @property
     def numbered(self) -> list[tuple[int, str]]:
@@ -81,6 +84,7 @@ class Converter:
         self.number = 0
         self.block: Block | None = None
         self.is_passing = False   # within a block that is written as it is
+        self.stray: Block | None = None  # that one, where a line opens it that opens none that is read
         self.is_draining = False  # within a block that is refused already
         self.is_after_item = False
         self.turned = self.refused = 0
@@ -104,20 +108,37 @@ class Converter:
             self.is_draining = not is_end
         elif self.block is None:
             self._outside(line, first)
+        elif self.block.is_stray and ends_stray(line, first, self.block.kind.encode()):
+            block, self.block = self.block, None
+            self._refuse(block, Refused(MORE_WORDS.format(block.kind), block.line))
+            self._outside(line, first)
         else:
             self._inside(self.block, line, is_end)
 
     def _outside(self, line: bytes, first: bytes) -> None:
         """Takes a line that stands in no block that is turned; `first` is its first word, empty where it has none."""
+        if self.stray is not None and ends_stray(line, first, first_word(self.stray.lines[0])):
+            self._leave_stray(self.number - 1)
+            self.write(b"END\n")  # so that the program reads the block that begins
         kind = "" if self.is_passing else KINDS.get(first, "")
         if kind:
             self.is_after_item = kind == "key line"
-            self.block = Block(kind, self.number)
+            self.block = Block(kind, self.number, is_stray=is_stray(line, first))
             self._inside(self.block, line, False)
             return
-        if first and (self.is_passing or opens_block(first, self.is_after_item)):
-            self.is_passing, self.is_after_item = first != b"END", False
         self.write(line)
+        if self.is_passing and first == b"END":
+            self._leave_stray(self.number)
+        elif first and not self.is_passing and opens_block(first, self.is_after_item):
+            self.is_passing, self.is_after_item = True, False
+            self.stray = Block("", self.number, [line])
+
+    def _leave_stray(self, last: int) -> None:
+        """Ends what is written as it is; where no block that is read was opened there, it is told, with its last line."""
+        block, self.stray, self.is_passing = self.stray, None, False
+        if block is not None:
+            self.refused += 1
+            self.tell(block, Note(REFUSED, f"refused: {told_of_stray(block.line, last - block.line + 1, block.lines[0])}"))
 
     def _inside(self, block: Block, line: bytes, is_end: bool) -> None:
         block.add(line)
@@ -128,7 +149,7 @@ class Converter:
             self.block = None
             if block.kind == "PERIODIC_GRAPH":
                 self.is_passing = True
-                self.write(b"".join(block.lines))
+                self.stay(block, TOO_LONG)
             else:
                 self.is_draining = True
                 self._refuse(block, Refused(TOO_LONG, self.number))
@@ -137,9 +158,14 @@ class Converter:
         """Takes the end of the text."""
         block, self.block = self.block, None
         if block is not None and block.kind == "PERIODIC_GRAPH":
-            self.write(b"".join(block.lines))
+            self.stay(block, NO_END)
         elif block is not None:
-            self._refuse(block, Refused("there is no END"))
+            self._refuse(block, Refused(NO_END))
+        self._leave_stray(self.number)
+
+    def stay(self, block: Block, reason: str) -> None:
+        """Takes a block PERIODIC_GRAPH that stays as it is for a reason of which the program tells, too."""
+        self.write(b"".join(block.lines))
 
     def _turn(self, block: Block) -> None:
         """Writes the graph of a whole block, or the block as a comment."""
@@ -217,7 +243,7 @@ def _net_made_of(block: Block, notes: list[str | Note]) -> Net:
     if block.kind == "key line":
         return net_of_item(numbered[:-1], notes)
     if len(tokens_of(numbered[0][1], block.line)) > 1:
-        raise Refused(f"more words than {block.kind} stand in the line that opens the block", block.line)
+        raise Refused(MORE_WORDS.format(block.kind), block.line)
     fields = Fields(sections_of(numbered[1:-1]))
     notes += fields.dropped(USED[block.kind])
     if block.kind == "NET":

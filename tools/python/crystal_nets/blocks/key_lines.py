@@ -6,7 +6,7 @@ from ..graph import Edge, edge
 from ..net import Net
 from ..provenance import DROPPED, Note
 from ..refusal import Refused
-from ..texts.net_text import BESIDE_ITEMS, GREATEST_SHIFT, MOST_EDGES, MOST_VERTICES
+from ..texts.net_text import BESIDE_ITEMS, GREATEST_SHIFT, KEY_IS_ONE_LINE, MOST_EDGES, MOST_VERTICES
 
 from .made_net import net_made
 from .periodic_graph import WHOLE
@@ -39,7 +39,7 @@ def net_of_item(lines: list[tuple[int, str]], notes: list[str | Note]) -> Net:
             raise Refused(f"{tokens[0].text} begins before the end of this item", number)
         elif tokens and word not in BESIDE:
             if number_of(tokens[0].text) is not None:
-                raise Refused("numbers begin a line: a key is one line", number)
+                raise Refused(KEY_IS_ONE_LINE, number)
             notes.append(Note(DROPPED, f"line {number}: {shown(tokens[0].text)[1:-1]} is passed over"))
     if key is None or name is None:
         raise Refused(f"the item has no {'id' if key else 'key'} line")

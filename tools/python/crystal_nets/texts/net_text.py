@@ -10,6 +10,8 @@ import re
 from collections.abc import Iterable, Iterator
 from dataclasses import dataclass, field
 
+from ..files import told_encoding
+
 MOST_BLOCKS = 4_096
 MOST_BYTES = 16_777_216
 MOST_VERTICES = 512
@@ -20,7 +22,12 @@ WIDEST = 1 << 60  # no position of a report is as wide
 
 # the first token of a line, where it has one: a word or number, or else any other byte
 FIRST_TOKEN = re.compile(rb'[ \t\v\f\r]*(?:([^\x00-\x20"#\x7f]+)|([^#\n \t\v\f\r]))')
+OPENERS = (b"CRYSTAL", b"NET", b"TILING", b"PERIODIC_GRAPH")  # of the blocks that are read, alone in their lines
+ALONE = re.compile(rb"[ \t\v\f\r]*(?:%s)[ \t\v\f\r]*(?:#[^\n]*)?\n?" % b"|".join(OPENERS), re.IGNORECASE)
+KEY_LINE = re.compile(rb"[ \t\v\f\r]*KEY[ \t\v\f\r]+[+-]?\d", re.IGNORECASE)
+NUMBER_FIRST = re.compile(rb"[ \t\v\f\r]*[+-]?\d")
 ITEM_WORDS = (b"KEY", b"ID")  # begin an item of key lines
+KEY_IS_ONE_LINE = "numbers begin a line: a key is one line"
 BESIDE_ITEMS = (b"VERSION", b"CHECKSUM")  # of an item, where they stand after it
 BYTE_ORDER_MARK = b"\xef\xbb\xbf"
 OTHER_TEXTS = {b"NET_ARCHIVE": "an archive; archive_nets writes its nets as blocks",
@@ -52,6 +59,7 @@ class Chunk:
     opening_line: int = 0   # the line that opens the block; 0 where there is none
     lines: list[bytes] = field(default_factory=list)
     is_item: bool = False   # whether it is an item of key lines
+    is_stray: bool = False  # whether the line that opens it opens no block that is read
 
     @property
     def size(self) -> int:
@@ -69,19 +77,44 @@ def opens_block(word: bytes, after_item: bool) -> bool:
     return word != b"END" and not (after_item and word in BESIDE_ITEMS)
 
 
+def is_stray(line: bytes, word: bytes) -> bool:
+    """Whether a line that stands outside of all blocks opens none that is read, by its first word in capital letters:
+    no item of key lines begins, and it is not the kind of a block alone."""
+    return word not in ITEM_WORDS and not ALONE.fullmatch(line)
+
+
+def ends_stray(line: bytes, word: bytes, opening: bytes) -> bool:
+    """Whether a line opens a block or an item though a stray one, whose first word is given, has no END yet. In an
+    archive and in a report a key is no item."""
+    if word in OPENERS:
+        return ALONE.fullmatch(line) is not None
+    return word == b"KEY" and KEY_LINE.match(line) is not None and opening not in (*OPENERS, *OTHER_TEXTS, b"ENTRY")
+
+
+def told_of_stray(line: int, count: int, opening: bytes) -> str:
+    """The reason why a block gives no net whose first line, of so many, opens none that is read."""
+    words = opening.strip()[:40].decode(errors="replace")
+    return f"a block {words!r} is not read" + f", up to line {line + count - 1}" * (count > 1)
+
+
 def chunks_of(lines: Iterable[bytes], after_item: bool = False) -> Iterator[Chunk]:
     """The text in pieces of one block or item each, so that all of them joined are the text. Blocks and items may follow
-    each other in any order: the first token of each decides. Of a text that is cut out of a longer one, whether it
-    follows an item is to be given."""
-    chunk = Chunk(1)
+    each other in any order: the first token of each decides. A stray line lasts as a block does, but up to a line before
+    its END that opens a block. Of a text that is cut out of a longer one, whether it follows an item is to be given."""
+    chunk, opening = Chunk(1), b""
     for number, line in enumerate(lines, start=1):
+        plain = line.removeprefix(BYTE_ORDER_MARK) if number == 1 else line
+        word = first_word(plain)
+        if chunk.is_stray and word and ends_stray(plain, word, opening):
+            yield chunk
+            chunk, after_item = Chunk(number), False
         chunk.lines.append(line)
-        word = first_word(line.removeprefix(BYTE_ORDER_MARK) if number == 1 else line)
         if not word:
             continue
         if not chunk.opening_line:
             if opens_block(word, after_item):
-                chunk.opening_line, chunk.is_item = number, word in ITEM_WORDS
+                chunk.opening_line, chunk.is_item, opening = number, word in ITEM_WORDS, word
+                chunk.is_stray = is_stray(plain, word)
         elif word == b"END":
             yield chunk
             after_item = chunk.is_item
@@ -110,6 +143,15 @@ def chunks_as_read(lines: Iterable[bytes], is_items: bool | None = None) -> Iter
             chunk = Chunk(number + 1)
     if chunk.lines:
         yield chunk
+
+
+def continued_key(chunk: Chunk) -> int:
+    """The line of an item that a number begins, as where its key goes on there; 0 where there is none, or it is no item.
+    `union` passes over such a line, and so reads another net."""
+    lines = chunk.block_lines if chunk.opening_line else []
+    if not lines or first_word(lines[0]) not in ITEM_WORDS:
+        return 0
+    return next((number for number, line in enumerate(lines, start=chunk.opening_line) if NUMBER_FIRST.match(line)), 0)
 
 
 def first_word(line: bytes) -> bytes:
@@ -316,7 +358,8 @@ def nets_of_report(lines: Iterable[bytes]) -> Iterator[NetReport]:
 
 def _read(net: NetReport | None, line: bytes, count: int) -> None:
     if net is None:
-        raise NoReport(f"line {count}: this begins no report of check, place, key or identify: {line[:60]!r}")
+        raise NoReport(f"line {count}: this begins no report of check, place, key or identify: {line[:60]!r}"
+                       + told_encoding(line))
     try:
         net.read(line)
     except ValueError:
