@@ -111,6 +111,15 @@ class WithoutKey(FolderTest):
         told = run(BATCH / "net_topology", self.folder / "absent", status=1)
         self.assertIn(b"No such file", told.stderr)
 
+    def test_doubts_and_what_is_passed_over_are_told(self):
+        self.file.write_text("CRYSTAL\nNAME near\nGROUP P4/mmm\nCELL 1 1 1.35 90 90 90\nNODE V 6 0 0 0\nEND\n")
+        done = run(BATCH / "net_topology", self.file)
+        self.assertIn(b"\tnear\t", done.stdout)
+        self.assertIn(b"nets.cgd: near: edges are by distance, and of the node V a vertex that is not joined is ", done.stderr)
+        self.file.write_bytes(BRIDGED.replace(b"END", b"TD10 5\nEND"))
+        done = run(BATCH / "wide_archive", self.folder / "mine", self.file)
+        self.assertRegex(done.stderr, rb"\Awide_archive: bridged: line \d+: TD10 is passed over, with 1 row\n\Z")
+
     def test_an_archive_of_nets_without_a_key(self):
         told = run(BATCH / "wide_archive", self.folder / "mine", self.file, status=1).stderr.decode().splitlines()
         self.assertEqual(told, ["wide_archive: sql: it has a key", "wide_archive: row: refused 2 Degenerate q=0 c=0 1 h=0",

@@ -78,6 +78,13 @@ class Strays(FolderTest):
             self.assertIn(b' "next"\ngraph d=3 ', run(PROGRAM, "check", "-", stdin=turned.stdout, status=None).stdout)
             self.assertIn(b': line 1 "', turned.stderr)
 
+    def test_what_stands_behind_an_item_hides_no_block(self):
+        need_program()
+        for item in (TRIANGLES, TRIANGLES.replace("id hxl", "")):
+            text = f"{item}checksum 5\n{self.BLOCKS[0]}".encode()
+            turned = run(COMMAND, "-", stdin=text, status=None).stdout
+            self.assertIn(b' "next"\ngraph d=3 ', run(PROGRAM, "check", "-", stdin=turned, status=None).stdout)
+
     def test_keys_of_an_archive_are_no_items(self):
         text = b'net_archive 1\nentry "a"\ngraph 2 1 2\nedge 1 1 0 1\nedge 1 1 1 0\nkey 2 1 1 1 1 0 1 1 1 1 0\nend\n'
         self.assertEqual([line for _, line in told_of(text)],

@@ -114,6 +114,11 @@ class Provenance:
         return tuple(note.text for note in self.notes)
 
     @property
+    def told(self) -> tuple[str, ...]:
+        """The notes that a command tells in any case."""
+        return tuple(note.text for note in self.notes if note.kind in TOLD)
+
+    @property
     def doubts(self) -> tuple[str, ...]:
         """The notes on where another reading gives another net."""
         return self._of_kind(DOUBT)

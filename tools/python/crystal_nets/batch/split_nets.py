@@ -20,7 +20,6 @@ from pathlib import Path
 
 from ..files import AHEAD, opened_plain, write_whole
 from ..net import Net
-from ..provenance import TOLD
 from ..reading import holds_structure, is_ended, is_plain, net_of_chunk, nets_of_cif
 from ..texts.net_text import (HEADER, ITEM_WORDS, KEY_IS_ONE_LINE, MOST_BLOCKS, MOST_BYTES, OTHER_TEXTS, Chunk, NoReport,
                               chunks_as_read, chunks_of, continued_key, first_word)
@@ -115,9 +114,8 @@ class Reader:
     def _tell(self, net: Net, place: str) -> None:
         if net.refusal:
             self._refuse(place, net.refusal)
-        for note in net.provenance.notes:
-            if note.kind in TOLD:
-                self._print(place, note.text)
+        for text in net.provenance.told:
+            self._print(place, text)
 
     def _refuse(self, place: str, reason: str) -> None:
         self.failed += 1

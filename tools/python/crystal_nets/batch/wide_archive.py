@@ -29,6 +29,9 @@ def main() -> int:
     asked = parser.parse_args()
     bind_programs()
     nets, left_out = chosen([net for file in asked.files for net in read(Path(file))])
+    for net in nets:
+        for text in net.provenance.told:
+            print(f"wide_archive: {net.name}: {text}".encode(errors="replace").decode(), file=sys.stderr)
     left_out += write_wide_archive(asked.stem, nets)
     for name, reason in left_out:
         print(f"wide_archive: {name or 'a net without a name'}: {reason}", file=sys.stderr)

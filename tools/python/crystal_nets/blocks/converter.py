@@ -126,10 +126,12 @@ class Converter:
             self.block = Block(kind, self.number, is_stray=is_stray(line, first))
             self._inside(self.block, line, False)
             return
-        self.write(line)
+        is_opener = not self.is_passing and first != b"" and opens_block(first, self.is_after_item)
+        is_beside = not (self.is_passing or is_opener) and first not in (b"", b"END")  # of an item, and no block for the program
+        self.write(b"# " * is_beside + line)
         if self.is_passing and first == b"END":
             self._leave_stray(self.number)
-        elif first and not self.is_passing and opens_block(first, self.is_after_item):
+        elif is_opener:
             self.is_passing, self.is_after_item = True, False
             self.stray = Block("", self.number, [line])
 

@@ -1,7 +1,7 @@
 """What databases list of the nets of files: a line for each net, with tabs between its fields. These are the file, the
 name, the point symbol, the vertex symbols of the kinds of vertices, the topological density TD10, and how many kinds of
 vertices and of edges there are. All of it is computed beside the program, and not proved. A net that is not connected, or
-takes too long, is told on standard error, and so is what gives no net. A FILE is of any kind that net_table takes."""
+takes too long, is told on standard error, and so are doubts, what a net has not, and what gives no net. A FILE is of any kind that net_table takes."""
 
 from __future__ import annotations
 
@@ -11,7 +11,7 @@ import sys
 from collections.abc import Iterator
 from pathlib import Path
 
-from ..errors import NotANet, in_words
+from ..errors import NotANet, PackageMissing, in_words
 from ..net import Net
 from ..reading import read
 from ..tables.columns import escaped
@@ -35,10 +35,11 @@ def main() -> int:
         print("\t".join(HEAD))
     for file, net in nets_of(asked.files):
         found = topology_of(net.graph) if not net.refusal else None
+        reasons = [net.refusal or "the net is not connected, or takes too long"] if found is None else []
+        for reason in (*net.provenance.told, *reasons):
+            print(f"net_topology: {file}: {net.name or '?'}: {reason}".encode(errors="replace").decode(), file=sys.stderr)
         if found is None:
             missing += 1
-            reason = net.refusal or "the net is not connected, or takes too long"
-            print(f"net_topology: {file}: {net.name or '?'}: {reason}".encode(errors="replace").decode(), file=sys.stderr)
         else:
             print(json.dumps({"source": file, "name": net.name, **found.to_dict()}) if asked.json else row_of(file, net, found))
     return int(missing > 0)
@@ -50,7 +51,7 @@ def nets_of(files: list[str]) -> Iterator[tuple[str, Net]]:
         try:
             for net in read(Path(file)):
                 yield net.provenance.file or file, net
-        except (OSError, NotANet) as fault:
+        except (OSError, NotANet, PackageMissing) as fault:
             yield file, Net.refused(in_words(fault))
 
 
