@@ -227,6 +227,14 @@ class Texts(FolderTest):
             self.assertEqual([row[0] for row in index], [f"p{k + 1:05}.arc" for k in range(len(index))])
             self.assertEqual(b"".join((folder / row[0]).read_bytes() for row in index), KEY_LINES)
 
+    def test_texts_of_the_program_in_another_encoding_are_named(self):
+        report = run(PROGRAM, "key", TOP / "examples/sql.cgd").stdout
+        rows = run(BATCH / "net_rows", stdin=report).stdout
+        for name, words, text in (("net_rows", [], report), ("net_groups", ["/dev/stdin"], rows),
+                                  ("archive_nets", ["/dev/stdin"], ARCHIVE.read_bytes())):
+            told = run(BATCH / name, *words, stdin=text.decode().encode("utf-16"), status=1).stderr
+            self.assertIn(b"it is in UTF-16, and `iconv -f UTF-16 -t UTF-8` makes a text that is read", told)
+
     def test_a_key_in_several_lines_is_told(self):
         """`union` reads the first line of a key, and so another net."""
         items, archive, report = self.folder / "nets.arc", self.folder / "empty", self.folder / "report"

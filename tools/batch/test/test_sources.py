@@ -57,6 +57,24 @@ class Sources(FolderTest):
     def restore(self) -> None:
         self.source.write_bytes(b"".join(self.blocks))
 
+    def test_files_in_other_encodings(self):
+        need_modules("gemmi", "numpy", "scipy")
+        source = self.folder / "source"
+        source.mkdir()
+        nets, quartz = block(1).decode(), (TOP / "examples/quartz.cif").read_text()
+        for encoding in ("utf-8", "utf-16", "utf-32", "utf-16-be"):
+            (source / f"{encoding}.cgd").write_text("stray\n" + nets, encoding=encoding)
+        (source / "quartz.cif").write_text(quartz, encoding="utf-16")
+        self.make(source, self.result, status=1)
+        rows = [line.split("\t") for line in (self.result / "table.tsv").read_text().splitlines()[1:]]
+        self.assertEqual([(Path(row[1]).name, row[2], row[4]) for row in rows], [
+            ("quartz.cif", "", "accepted"), ("utf-16-be.cgd", "", "unreadable"),
+            *((f"{encoding}.cgd", line, outcome) for encoding in ("utf-16", "utf-32", "utf-8")
+              for line, outcome in (("1", "unreadable"), ("2", "accepted")))])
+        told = (self.result / "refused.tsv").read_text()
+        self.assertIn("iconv -f UTF-16BE -t UTF-8", told)
+        self.assertEqual(told.count("line 1: a block 'stray' is not read"), 3)
+
     def test_halves_that_were_swapped(self):
         whole = self.whole()
         for keeps_time in (False, True):
