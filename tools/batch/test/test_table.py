@@ -318,6 +318,8 @@ class Table(FolderTest):
                                     ([self.source, self.result, "--jobs", "0"], 2, "1 to 1024"),
                                     ([self.source, self.result, "--part", "4/3"], 2, "3/16"),
                                     ([self.source, self.result, "--archive", self.source], 3, "archive"),
+                                    ([self.source, self.result, "--bond", "Si-O=1", "--bond", "O-Si=2"], 2, "O-Si several lengths"),
+                                    ([self.source, self.result, "--leave-out", ","], 2, "is not as Na,Cl"),
                                     ([1, 2, 3], 2, "FOLDER")):
             done = run(NET_TABLE, *words, status=status)
             self.assertIn(word, done.stderr.decode(), words)
@@ -341,7 +343,6 @@ class Table(FolderTest):
                             (["--part", "1/1", "--parquet"], "--parquet has no effect with --part"),
                             (["--part", "1/1", "--plan"], "--plan has no effect with --part"),
                             (["--plan", "--maps"], "--maps has no effect with --plan"),
-                            (["--no-names", "--maps"], "--maps has no effect with --no-names"),
                             (["--no-names", "--archive", self.archives], "--archive has no effect with --no-names")):
             self.assertIn(told, run(NET_TABLE, self.result, *words, status=2).stderr.decode(), words)
         self.assertIn(b"made with --keys-alone", run(NET_TABLE, self.source, self.result, "--seconds", 900, "--bond", "Si-O=1.9",

@@ -103,7 +103,7 @@ class Words(FolderTest):
 
     def test_words_without_a_form(self):
         for words in ([], ["--bond", "Cs=3", self.file], ["--bond", "Xx-O=3", self.file], ["--nonsense", self.file],
-                      ["--leave-out", "CS", self.file]):
+                      ["--leave-out", "CS", self.file], ["--bond", "Cs-Cl=3", "--bond", "Cl-Cs=4", self.file]):
             run(COMMAND, *words, status=2)
 
     def test_atoms_too_near_are_refused(self):

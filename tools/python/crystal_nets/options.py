@@ -133,6 +133,12 @@ def lengths_of(value: object) -> dict[frozenset[str], float]:
     return found
 
 
+def twice_given(bonds: Iterable[tuple[frozenset[str], float]]) -> str:
+    """A pair of elements that has two lengths, as Ba-O; empty where there is none."""
+    found: dict[frozenset[str], float] = {}
+    return next(("-".join(sorted(pair)) for pair, length in bonds if found.setdefault(pair, length) != length), "")
+
+
 def _pair(words: object) -> frozenset[str]:
     """The elements of a pair; of Fe-Fe, or of a set that has Fe alone, there is one."""
     parts = words.split("-") if isinstance(words, str) else words

@@ -16,7 +16,7 @@ from itertools import islice
 
 from ..errors import NotAnOption
 from ..files import telling_text
-from ..options import elements_of, lengths_of
+from ..options import elements_of, lengths_of, twice_given
 from ..progress import Progress
 from .bonds.listed import BY_RULES, WAYS
 from .bonds.rules import INTERMETALLIC
@@ -75,7 +75,10 @@ def words() -> argparse.Namespace:
     parser.add_argument("--notes", metavar="FILE", help="write what is told as JSON, one line a file")
     parser.add_argument("--quiet", action="store_true", help="tell no more than doubts, what a net has not, and why a file "
                         "gives no net")
-    return parser.parse_args()
+    asked = parser.parse_args()
+    if pair := twice_given(asked.bond):
+        parser.error(f"--bond gives {pair} several lengths")
+    return asked
 
 
 def elements(text: str) -> frozenset[str]:

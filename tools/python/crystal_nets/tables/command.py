@@ -21,7 +21,7 @@ from ..archive import Archive, default_files, files_of as archive_files
 from ..progress import Progress
 from ..errors import CrystalNetsError, ProgramFailed, in_words
 from ..files import write_whole
-from ..options import CHOICES
+from ..options import CHOICES, twice_given
 from ..side_by_side import bind_programs, end_with_parent, processors
 from .join import FILES, join
 from .parquet import need_pyarrow, write_parquet
@@ -85,6 +85,10 @@ def words() -> argparse.Namespace:
     asked = parser.parse_args()
     if len(asked.paths) > 2:
         parser.error("give a SOURCE and a FOLDER, or a FOLDER alone")
+    if pair := twice_given((frozenset(pair.split("-")), length) for pair, length in asked.bond):
+        parser.error(f"--bond gives {pair} several lengths")
+    if asked.leave_out is not None and not asked.leave_out.replace(",", " ").split():
+        parser.error(f"--leave-out {asked.leave_out!r} is not as Na,Cl")
     _check_together(parser, asked)
     return asked
 
@@ -93,7 +97,7 @@ def _check_together(parser: argparse.ArgumentParser, asked: argparse.Namespace) 
     """Ends with the usage where an option has no effect beside another one."""
     of_table = {"--archive": asked.archive, "--maps": asked.maps, "--parquet": asked.parquet}
     for one, is_given, others in (("--part", asked.part, {**of_table, "--plan": asked.plan}), ("--plan", asked.plan, of_table),
-                                  ("--no-names", asked.no_names, {"--archive": asked.archive, "--maps": asked.maps})):
+                                  ("--no-names", asked.no_names, {"--archive": asked.archive})):
         without = [other for other, is_other in others.items() if is_given and is_other]
         if without:
             parser.error(f"{without[0]} has no effect with {one}")
