@@ -275,7 +275,7 @@ class Table(FolderTest):
             self.assertEqual(contents(self.result), whole)
 
     def test_parts_as_on_a_cluster(self):
-        self.make("--plan", status=0)
+        run(NET_TABLE, self.source, self.result, "--plan")
         run(NET_TABLE, self.result, "--part", "2/3")
         for k in ("1", "3"):
             run("sh", BATCH / "nets.sbatch", BATCH, self.result, SLURM_ARRAY_TASK_ID=k, SLURM_ARRAY_TASK_COUNT="3",
