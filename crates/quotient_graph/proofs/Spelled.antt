@@ -1,6 +1,7 @@
 -- The edges of a graph, read off its stars: they are the arcs of the stars that are spellings, and rise as they stand.
 use Rattle.std.proofs.Common.{◌≡◌, ◌⊎◌, inl, inr, List, [], ◌∷◌, ◌++◌, ℕ, suc, ◌+◌, ◌-◌, ◌<◌, ◌≤◌, ◌==◌, ◌||◌, ◌&&◌, length, get_or, refl, sym, ap, subst}
-use Rattle.std.proofs.Common.{true, pos, arith}
+use Rattle.std.proofs.Common.{true, false, Bool, cond, pos, arith, take, append-nil, ◌∙◌}
+use Rattle.std.proofs.lemmas.List.Elements.{filter_more}
 use Rattle.std.proofs.lemmas.{Int.ints, Bool.Decides.nat_tests, Grind.common_steps}
 use Rattle.std.proofs.lemmas.List.Kept.{AllPairs-cons, AllPairs-filter}
 use Rattle.std.proofs.lemmas.List.Sorted.{Contains-permutation, IsPermutation-sym}
@@ -31,6 +32,22 @@ is_spelling a h = test_holds a.from a.to _ h
 
 pub passes : (a : Arc) → IsNormalSpelling a → is_spelled a ≡ true
 passes a h = test_is_true a.from a.to _ h
+
+-- a spelling more is chosen
+pub chosen_more : (s : List Arc) (i : ℕ) (a : Arc) → i < length s → a ≡ get_or s i a → IsNormalSpelling a
+    → filter is_spelled (take (i + 1) s) ≡ filter is_spelled (take i s) ++ a ∷ []
+chosen_more s i a l e n = filter_more is_spelled s i a l ∙ ap (λ b. filter is_spelled (take i s) ++ cond (is_spelled b) (b ∷ []) []) (sym e)
+    ∙ ap (λ t. filter is_spelled (take i s) ++ cond t (a ∷ []) []) (passes a n)
+
+-- another arc is passed over
+pub passed_over : (s : List Arc) (i : ℕ) (a : Arc) → i < length s → a ≡ get_or s i a → (IsNormalSpelling a → ⊥)
+    → filter is_spelled (take (i + 1) s) ≡ filter is_spelled (take i s)
+passed_over s i a l e n = filter_more is_spelled s i a l ∙ ap (λ b. filter is_spelled (take i s) ++ cond (is_spelled b) (b ∷ []) []) (sym e)
+    ∙ ap (λ t. filter is_spelled (take i s) ++ cond t (a ∷ []) []) (not_spelled (is_spelled a) refl) ∙ append-nil (filter is_spelled (take i s))
+  where
+    not_spelled : (b : Bool) → is_spelled a ≡ b → is_spelled a ≡ false
+    not_spelled false h = h
+    not_spelled true h = absurd (n (is_spelling a h))
 
 -- The spellings among the arcs of the stars.
 

@@ -1,6 +1,8 @@
 -- Lists of arcs from each vertex or class: their number, how they are made and sorted, and what arcs they have.
 use Rattle.std.proofs.Common.{◌≡◌, ◌∙◌, ap, List, length, map, sum_by, ◌≢◌, inl, inr, ℕ, ◌-◌, ◌+◌, ◌<◌, ◌≤◌, ◌==◌, true, false, [], ◌∷◌, ◌++◌, take, All}
 use Rattle.std.proofs.Common.{cond, get_or, set, refl, sym, subst, arith, get_or-set_same, get_or-set_other, length-set, add-one, zero, suc, Bool}
+use Rattle.std.proofs.Common.{length-append}
+use Rattle.std.proofs.lemmas.List.{get_or_append_left, get_or_push}
 use Rattle.std.proofs.lemmas.List.{map-set, map_more, get_or-map, length-map, append_assoc, append-nil, get_or_default}
 use Rattle.std.proofs.lemmas.List.Elements.{filter-append, recursion_from_All, All-from_recursion}
 use Rattle.std.specs.List.{filter, AllByRecursion, Contains}
@@ -46,6 +48,16 @@ filtered_other u a as' n = filter-append (λ (b : Arc). b.from == u) as' (a ∷ 
 pub have_more : (n : ℕ) (stars : List (List Arc)) (as' : List Arc) (a : Arc) → 1 ≤ a.from → a.from ≤ n → HaveArcs n stars as'
     → HaveArcs n (with_arc stars a) (as' ++ a ∷ [])
 have_more n stars as' a low high h = grind (arith, length-set, cases_eq, get_or-set_same, filtered_same, get_or-set_other, filtered_other)
+
+-- one more list, without arcs
+pub have_none_more : (n : ℕ) (stars : List (List Arc)) → HaveArcs n stars [] → HaveArcs (n + 1) (stars ++ [] ∷ []) []
+have_none_more n stars h = record {
+  count = length-append stars ([] ∷ []) ∙ ap (λ k. k + 1) h.count;
+  each = λ u low high. elim (before_or_at (u - 1) n (omega (arith, low, high))) [
+    | inl l ↦ let c = h.count in get_or_append_left stars ([] ∷ []) [] (u - 1) (omega (arith, l, c)) ∙ h.each u low (omega (arith, low, l))
+    | inr e ↦ get_or_push stars [] [] (u - 1) (h.count ∙ sym e)
+  ];
+}
 
 -- the reverse of the edge at place i
 pub have_back_at : (n : ℕ) (stars : List (List Arc)) (es : List Arc) (i : ℕ) (e : Arc) → i < length es → e ≡ get_or es i e → All (EdgeFits n) es
