@@ -28,3 +28,9 @@ returns-in-Ok-clause-fault g c =
     let p = value_in fraction_value rows in
     IfErr-weaker c.units_in_limits.result (IsUnitsFault G p) (IsPlaceFault G)
     (told_of_net G p e.fit (are_positions G rows c.recall.ensures.parameter e.solved e.flat)) (rw c.deref.ensures.value at c.units_in_limits.ensures.fault)
+
+pub returns-in-Err-NoMemory : goal.returns-in-Err-NoMemory
+returns-in-Err-NoMemory g c = record { positive = tt; normal = tt; limits = tt; reached = tt; fault = tt }
+
+pub returns-in-Err-Wide : goal.returns-in-Err-Wide
+returns-in-Err-Wide g c = record { positive = tt; normal = tt; limits = tt; reached = tt; fault = c.wide_fault.ensures }

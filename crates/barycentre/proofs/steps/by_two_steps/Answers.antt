@@ -1,4 +1,5 @@
--- Of `by_two_steps`: the clause `none`; what `left_rows` and `tested` require. The clause says that there is no placement within the limits.
+-- Of `by_two_steps`: what it ensures; what `left_rows` and `tested` require. The clause `none` says that there is no placement within the limits.
+use Rattle.std.proofs.lemmas.Result.{err_from_is_err_and}
 use Rattle.std.proofs.Common.{lit<, ◌≡◌, ◌∙◌, ◌<◌, ℕ, ℤ, List, length, map, subst, Option, Result, IfOk, MatchOption, arith}
 use Rattle.std.{proofs.lemmas.List.length-map, specs.Prelude.⊤}
 use Rattle.periodic_net.specs.Graph.{Graph}
@@ -68,15 +69,44 @@ tested-requires g c =
     c.in_ok-nexts.ensures.count c.in-Some.rows.items (h ∙ c.requires.count) recovered in
     rw c.deref-in-Some.ensures.value (lit< tt, (lit< tt, (h ∙ c.requires.count, fractions)))
 
-pub returns-in-Some-clause-none : goal.returns-in-Some-clause-none
-returns-in-Some-clause-none g c =
+pub returns-in-Some : goal.returns-in-Some
+returns-in-Some g c =
     let G = c.args.g.now in let rows = c.in-Some.rows.items in
     let h = rw c.in-Some.is at c.in_ok-rows.ensures.count in
     let recovered = rw (c.in-Some.is, c.deref-3.ensures.value) at c.in_ok-rows.ensures.rows in
-    none_of (AreNotPlaced G (value_in fraction_value rows)) (AreNotWithin G) c.tested.result
-    (not_placed g (goal.at.returns-in-Some-clause-none g c).In_ok-nexts rows (h ∙ c.requires.count) recovered)
-    (rw c.deref-in-Some.ensures.value at c.tested.ensures.none)
+    let e = c.tested.ensures in
+    record {
+      positive = e.positive;
+      normal = e.normal;
+      limits = e.limits;
+      none = none_of (AreNotPlaced G (value_in fraction_value rows)) (AreNotWithin G) c.tested.result
+          (not_placed g (goal.at.returns-in-Some g c).In_ok-nexts rows (h ∙ c.requires.count) recovered) (rw c.deref-in-Some.ensures.value at e.none);
+    }
 
-pub returns-clause-none : goal.returns-clause-none
-returns-clause-none g c =
-    lacking g (goal.at.returns-clause-none g c).In_ok-nexts (rw (c.in-None.is, c.deref-3.ensures.value) at c.in_ok-rows.ensures.rows)
+pub returns : goal.returns
+returns g c = record {
+  positive = tt;
+  normal = tt;
+  limits = tt;
+  none = lacking g (goal.at.returns g c).In_ok-nexts (rw (c.in-None.is, c.deref-3.ensures.value) at c.in_ok-rows.ensures.rows);
+}
+
+pub returns-in_err-at : goal.returns-in_err-at
+returns-in_err-at g c =
+    let told = err_from_is_err_and c.from_residual.result c.from_residual.ensures.1 in
+    record { positive = rw told.1 tt; normal = rw told.1 tt; limits = rw told.1 tt; none = rw told.1 tt }
+
+pub returns-in_err-left : goal.returns-in_err-left
+returns-in_err-left g c =
+    let told = err_from_is_err_and c.from_residual-in_err-left.result c.from_residual-in_err-left.ensures.1 in
+    record { positive = rw told.1 tt; normal = rw told.1 tt; limits = rw told.1 tt; none = rw told.1 tt }
+
+pub returns-in_err-nexts : goal.returns-in_err-nexts
+returns-in_err-nexts g c =
+    let told = err_from_is_err_and c.from_residual-in_err-nexts.result c.from_residual-in_err-nexts.ensures.1 in
+    record { positive = rw told.1 tt; normal = rw told.1 tt; limits = rw told.1 tt; none = rw told.1 tt }
+
+pub returns-in_err-rows : goal.returns-in_err-rows
+returns-in_err-rows g c =
+    let told = err_from_is_err_and c.from_residual-in_err-rows.result c.from_residual-in_err-rows.ensures.1 in
+    record { positive = rw told.1 tt; normal = rw told.1 tt; limits = rw told.1 tt; none = rw told.1 tt }
