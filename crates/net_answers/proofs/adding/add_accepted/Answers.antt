@@ -1,5 +1,7 @@
+-- Of `add_accepted`: what it ensures.
+use Rattle.std.{proofs.lemmas.Result.err_from_is_err_and, specs.Prelude.option_copied}
 use Rattle.cgd_read.specs.Views.{views}
-use Rattle.net_answers.proofs.Additions.{all_accepted}
+use Rattle.net_answers.proofs.Additions.{all_accepted, all_are_first}
 use Rattle.net_answers.proofs.adding.add_accepted.Goals as goal
 
 pub returns-in_ok-refused_text-in-Err-clause-answer : goal.returns-in_ok-refused_text-in-Err-clause-answer
@@ -15,3 +17,19 @@ returns-in_ok-refused_text-in-Err-clause-answer c = record {
 pub returns-in_ok-refused_text-in-Err-clause-archive : goal.returns-in_ok-refused_text-in-Err-clause-archive
 returns-in_ok-refused_text-in-Err-clause-archive c =
     let told = c.in_ok-refused_text-in-Err.ensures.told in (c.in-Err.refused.block, c.in-Err.refused.fault, told, c.in-Err.ensures.fault told)
+
+pub returns-in_ok-text-in-Ok : goal.returns-in_ok-text-in-Ok
+returns-in_ok-text-in-Ok c =
+    let added = c.in-Ok.ensures.added in
+    record { answer = record { longer = c.add_all.new.archive; added = added; text_is = c.in_ok-text-in-Ok.ensures }; archive = added }
+
+pub returns-in_err-text-in-Ok : goal.returns-in_err-text-in-Ok
+returns-in_err-text-in-Ok c =
+    let told = err_from_is_err_and c.from_residual.result c.from_residual.ensures.1 in
+    let first = all_are_first (option_copied c.args.given) (views c.args.found.now) c.args.archive.now c.add_all.new.archive c.in-Ok.ensures.added in
+    record { answer = rw told.1 tt; archive = rw told.1 first }
+
+pub returns-in_err-refused_text-in-Err : goal.returns-in_err-refused_text-in-Err
+returns-in_err-refused_text-in-Err c =
+    let at = c.from_residual-in_err-refused_text-in-Err in let told = err_from_is_err_and at.result at.ensures.1 in
+    record { answer = rw told.1 tt; archive = rw told.1 c.in-Err.ensures.first }
