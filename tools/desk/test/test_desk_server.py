@@ -14,19 +14,22 @@ import unittest
 import zipfile
 from concurrent.futures import ThreadPoolExecutor
 from contextlib import ExitStack
+from unittest import mock
 
 from desk import Server, form_of, memory_for_program, need_desk
 from mutants import mutant
 from testing import IS_LONG, TOP
 
 need_desk()
-from crystal_nets.desk.application import CHOICES, FILES, MOST_BYTES  # noqa: E402
-from crystal_nets.desk.connections import MOST_STRANGERS, SECONDS_TO_ASK  # noqa: E402
-from crystal_nets.desk.files import FITTING, MOST_NETS  # noqa: E402
-from crystal_nets.desk.questions import AT_ONCE  # noqa: E402
+from crystal_nets.desk.application import CHOICES, FILES, MOST_FIELDS, application  # noqa: E402
+from crystal_nets.desk.connections import MOST_STRANGERS, SECONDS_TO_ASK, Connections  # noqa: E402
+from crystal_nets.desk.files import FITTING, MOST_BYTES, MOST_NETS  # noqa: E402
+from crystal_nets.desk.guard import MOST_SENT, Guard  # noqa: E402
+from crystal_nets.desk.questions import AT_ONCE, MOST_OF_A_BLOCK  # noqa: E402
 from crystal_nets.options import CONVENTION_NAMES as CONVENTIONS  # noqa: E402
 from crystal_nets.structures.nets.choice import Options  # noqa: E402
 from crystal_nets.structures.units.conventions import AUTO, CONVENTIONS as OF_CIF2CGD  # noqa: E402
+from flask import Request  # noqa: E402
 
 QUARTZ = (TOP / "examples/quartz.cif").read_bytes()
 FORMS = 2_000 if IS_LONG else 40
@@ -230,10 +233,35 @@ class WhatIsSent(WithServer):
         self.assertEqual(self.server.nets("a.cgd", SQL)["total"], 1)
 
     def test_too_large_or_of_unknown_length(self):
-        large = self.server.request("POST", "nets", b"x", Content_Length=str(MOST_BYTES + 1))
-        self.assertIn("64 MB", self.reason(large, 413))
+        """Who sends too much hears why, and no broken connection."""
+        for excess in (1, 40_000_000):
+            large = self.server.request("POST", "nets", bytes(MOST_SENT + excess))
+            self.assertEqual(self.reason(large, 413), "more than 128 MB are sent at once")
+        file, kind = form_of({"file": ("a.cgd", SQL.ljust(MOST_BYTES + 1)), "convention": "auto", "choices": "[]"})
+        self.assertEqual(self.reason(self.server.request("POST", "nets", file, Content_Type=kind), 413),
+                         "the file is larger than 64 MB")
+        many, kind = form_of({f"field{k}": "x" for k in range(MOST_FIELDS + 1)})
+        self.assertIn("more than 16 fields", self.reason(self.server.request("POST", "rows", many, Content_Type=kind), 413))
         self.reason(self.server.request("POST", "nets", b"0\r\n\r\n", Transfer_Encoding="chunked"), 411)
         self.reason(self.server.request("POST", "nets", b"x", Content_Length="x"), 411)
+
+    def test_the_largest_file_and_the_largest_block_are_read(self):
+        self.assertEqual(self.server.nets("a.cgd", SQL + (b"#".ljust(79) + b"\n") * ((MOST_BYTES - len(SQL)) // 80))["total"], 1)
+        largest = SQL.replace(b"EDGES", b"#" * (MOST_OF_A_BLOCK - len(SQL) - 1) + b"\nEDGES").decode()
+        row, = self.server.rows([{"line": 1, "text": largest}])
+        self.assertEqual((len(largest), row["names"][0]["name"].split(",")[0]), (MOST_OF_A_BLOCK, "sql"))
+        self.assertEqual(self.server.card(row)["key"], row["key"])
+
+    def test_no_limit_of_the_framework_holds(self):
+        """Newer ones refuse a field of 500,001 bytes where they are not told another limit."""
+        workers = mock.Mock(ask=lambda _, *given, client: json.dumps(list(map(len, given))))
+        app = application(Guard(80, "x"), workers, Connections())
+        least = {"max_form_memory_size": 500_000, "max_form_parts": 2, "max_content_length": 500_000}
+        fields = {"one": "x" * 1_000_000, "other": "y" * 2_000_000, "third": ""}
+        with mock.patch.multiple(Request, create=True, **least):
+            answer = app.test_client().post("/x/pair", data=fields, content_type="multipart/form-data",
+                                            headers={"Host": "localhost", "Origin": "http://localhost"})
+        self.assertEqual((answer.status_code, answer.get_json(force=True)), (200, [1_000_000, 2_000_000]))
 
     def test_names_are_never_paths(self):
         for name in ("../../../../etc/passwd", "/etc/passwd", "..\\..\\x.cif", "a\x00b.cif", "", ".", "..",

@@ -4,10 +4,11 @@ from __future__ import annotations
 
 import json
 from collections.abc import Callable, Sequence
+from contextlib import suppress
 from pathlib import Path
-from typing import Any
+from typing import IO, Any
 
-from flask import Flask, Response, request
+from flask import Flask, Request, Response, request
 from werkzeug.exceptions import BadRequest, HTTPException
 
 from ..files import content_of_file
@@ -16,8 +17,8 @@ from ..pictures.text import PALETTE
 from ..provenance import Provenance
 from . import questions
 from .connections import Connections
-from .files import FITTING, shown_name
-from .guard import MOST_BYTES, TOO_LARGE, Guard, Rejected, with_headers
+from .files import FITTING, MOST_BYTES, shown_name
+from .guard import MOST_SENT, Guard, Rejected, with_headers
 from .worker import ClientGone, NoAnswer, Workers
 
 PAGE = Path(__file__).with_name("page")
@@ -28,14 +29,26 @@ FILES = {"": (PAGE / "desk.html", "text/html"), "desk.css": (PAGE / "desk.css", 
          "viewer.js": (VIEWER, "text/javascript"), "icon.svg": (PAGE / "icon.svg", "image/svg+xml")}
 CHOICES = ("keep_ions", "hydrogen_bonds", "partial_as_full", "accept_misfit", "every_copy")
 MOST_ROWS = 1000  # of one question
+MOST_FIELDS = 16  # of one form; the page sends four
+MOST_READ_AWAY = 2**32  # bytes of a request that is too large
+TOO_LARGE = f"the file is larger than {MOST_BYTES >> 20} MB"
 GONE = 499  # nobody reads it
 NOT_THERE = "there is nothing at this address"
+
+
+class Asked(Request):
+    """A request with the limits of this page, whatever those of Flask and Werkzeug are: they differ by version, and the
+    least, of 500,000 bytes of a field, is less than a block may have. That of all bytes is what the guard tests."""
+
+    max_content_length = MOST_SENT
+    max_form_memory_size = MOST_SENT
+    max_form_parts = MOST_FIELDS
 
 
 def application(guard: Guard, workers: Workers, connections: Connections, given: Sequence[Path] = ()) -> Flask:
     """The application that serves the page, and the files that were named at the start."""
     app = Flask("net_desk", static_folder=None)
-    app.config["MAX_CONTENT_LENGTH"] = MOST_BYTES
+    app.request_class = Asked
     app.before_request(lambda: check(guard, connections))
     app.after_request(with_headers)
     app.register_error_handler(Rejected, lambda fault: told(fault.reason, fault.status))
@@ -50,9 +63,21 @@ def application(guard: Guard, workers: Workers, connections: Connections, given:
 
 
 def check(guard: Guard, connections: Connections) -> None:
-    """Raises Rejected where the request is not of the page; one that is has its time."""
-    guard.check(request)
+    """Raises Rejected where the request is not of the page, or too large; one that is of the page has its time. What is
+    too large is read away, since who sends yet hears of no answer."""
+    try:
+        guard.check(request)
+    except Rejected as fault:
+        if fault.status == 413:
+            read_away(request.environ["wsgi.input"], min(request.content_length or 0, MOST_READ_AWAY))
+        raise
     connections.has_shown_token(request.environ.get("werkzeug.socket"))
+
+
+def read_away(stream: IO[bytes], size: int) -> None:
+    with suppress(OSError):
+        while size > 0 and (part := stream.read(min(size, 1 << 20))):
+            size -= len(part)
 
 
 def told(reason: str, status: int) -> Response:
@@ -61,7 +86,8 @@ def told(reason: str, status: int) -> Response:
 
 def reason_of_fault(fault: HTTPException) -> str:
     """The reason of a fault that Flask finds, in one line."""
-    known = {404: NOT_THERE, 405: "this address is not asked in this way", 413: TOO_LARGE}
+    known = {404: NOT_THERE, 405: "this address is not asked in this way",
+             413: f"the form has more than {MOST_FIELDS} fields"}
     return known.get(fault.code or 0, str(fault.description))
 
 
@@ -148,7 +174,10 @@ def file_of_form() -> tuple[str, bytes]:
     file = request.files.get("file")
     if file is None:
         raise BadRequest("the form has no file")
-    return shown_name(file.filename or ""), file.read()
+    content = file.read(MOST_BYTES + 1)
+    if len(content) > MOST_BYTES:
+        raise Rejected(413, TOO_LARGE)
+    return shown_name(file.filename or ""), content
 
 
 def json_of_form(name: str) -> Any:

@@ -23,8 +23,8 @@ HEADERS = {"Content-Security-Policy": POLICY, "X-Content-Type-Options": "nosniff
 SAFE = ("GET", "HEAD")
 LOCAL = re.compile(r"(?:127\.0\.0\.1|localhost|\[::1\])(?::[1-9]\d{0,4})?", re.ASCII)  # names of this machine
 OWN = ("same-origin", "none")  # what Sec-Fetch-Site tells of a request of the page, or of the address that was typed
-MOST_BYTES = 64 * 2**20  # of one request
-TOO_LARGE = f"the file is larger than {MOST_BYTES >> 20} MB"
+MOST_SENT = 128 * 2**20  # bytes of one request: a file of the largest size with a block, or blocks as JSON has them
+TOO_MUCH = f"more than {MOST_SENT >> 20} MB are sent at once"
 
 
 class Rejected(Exception):
@@ -60,8 +60,8 @@ class Guard:
             raise Rejected(403, "the request has no Origin")
         if request.content_length is None or "Transfer-Encoding" in request.headers:
             raise Rejected(411, "the request does not tell its length")
-        if request.content_length > MOST_BYTES:
-            raise Rejected(413, TOO_LARGE)
+        if request.content_length > MOST_SENT:
+            raise Rejected(413, TOO_MUCH)
 
     def has_token(self, path: str) -> bool:
         """Whether the first part of a path is the token."""
