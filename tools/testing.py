@@ -29,7 +29,7 @@ PACKAGES = {"gemmi": "python3-gemmi", "numpy": "python3-numpy", "spglib": "pytho
             "mypy": "mypy", "pip": "python3-pip", "setuptools": "python3-setuptools", "wheel": "python3-wheel", "venv": "python3-venv",
             "parallel": "parallel", "time": "time", "slurmctld": "slurm-wlm",
             "munged": "munge", "rsvg-convert": "librsvg2-bin", "chromium": "chromium",
-            "flask": "python3-flask", "tqdm": "python3-tqdm", "werkzeug": "python3-werkzeug", "selenium": "python3-selenium",
+            "flask": "python3-flask", "node": "nodejs", "tqdm": "python3-tqdm", "werkzeug": "python3-werkzeug", "selenium": "python3-selenium",
             "chromedriver": "chromium-driver", "mandoc": "mandoc", "lintian": "lintian", "debootstrap": "debootstrap",
             "dpkg-deb": "dpkg", "objdump": "binutils", "strip": "binutils", "bash": "bash"}
 

@@ -37,10 +37,11 @@ class Unread:
 
 @dataclass
 class Found:
-    """The nets of a file, MOST_NETS at most, and how many it has."""
+    """The nets of a file, MOST_NETS at most, how many it has, and whether they are read from a structure."""
 
     nets: list[Net | Unread] = field(default_factory=list)
     total: int = 0
+    is_structure: bool = False
 
 
 def shown_name(name: str) -> str:
@@ -63,7 +64,7 @@ def nets_of_file(name: str, content: bytes, options: dict[str, Any]) -> Found:
         raise NotANet(f"it is {kind}")
     if is_json(content) or holds_structure(content, name):
         nets = read(content, name=name, **fitting(options))
-        found = Found([*nets[:MOST_NETS]], len(nets))
+        found = Found([*nets[:MOST_NETS]], len(nets), is_structure=True)
     else:
         found = _of_blocks(content)
     if not found.total:

@@ -28,7 +28,7 @@ def nets(name: str, content: bytes, options: dict[str, Any]) -> dict[str, Any]:
     """The nets of a file: of the first AT_ONCE what the table tells of them, and of the others what `rows` asks for."""
     found = nets_of_file(name, content, options)
     first = [_read(net) for net in found.nets[:AT_ONCE]]
-    return {"total": found.total, "rows": [*map(_with_net, first, rows_of(first))],
+    return {"total": found.total, "isStructure": found.is_structure, "rows": [*map(_with_net, first, rows_of(first))],
             "waiting": list(map(_waiting, found.nets[AT_ONCE:]))}
 
 

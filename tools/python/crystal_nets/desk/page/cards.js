@@ -76,6 +76,7 @@ function sizesOf(card) {
   const shells = (card.sequences || []).map(({ numbers, vertices }) =>
     make('code', {}, `${numbers.join(' ')}${card.classes > 1 ? ` (${vertices} of ${card.classes})` : ''}\n`));
   return listOf([
+    ['read by', wayText(card.entry)],
     ['given', sizes && sizes.vertices ? `${count(sizes.vertices, 'vertex', 'vertices')}, ` +
       `${count(sizes.edges, 'edge', 'edges')}, dimension ${sizes.d}` : ''],
     ['interwoven', card.copies > 1 ? `one of ${card.copies} copies alike` : ''],

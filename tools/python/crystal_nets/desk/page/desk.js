@@ -83,9 +83,7 @@ async function unzipped(archive) {
 // What is chosen above holds for the structures that are shown, too.
 function readAllAgain() {
   for (const source of sources) {
-    if (source.isBlocks) continue;
-    source.convention = source.again.value = element('convention').value;
-    source.read();
+    if (!source.isBlocks) source.read(element('convention').value);
   }
 }
 

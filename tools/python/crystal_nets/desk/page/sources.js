@@ -7,11 +7,14 @@ const FILES_OPEN = 6;      // files that come together are opened where they are
 const NETS_OPEN = 12;      // and have no more nets
 const sources = [];        // in the order in which they were given
 
-function choicesOf() {
-  return JSON.stringify([...element('choices').querySelectorAll('input:checked')].map(input => input.value));
+// How a structure is to be read: the convention, and what is ticked above.
+function wayOf(convention) {
+  const ticked = [...element('choices').querySelectorAll('input:checked')].map(input => input.value);
+  return { convention, choices: JSON.stringify(ticked) };
 }
 
-// A net of a file, or the place of nets that are not there yet. Its state is waiting, known, failed or stopped.
+// A net of a file, or the place of nets that are not there yet. Its state is waiting, known, failed or stopped; its way is
+// how the file was read that it is of.
 class Entry {
   constructor(source, state, fields = {}) {
     Object.assign(this, { source, state, isOpen: false }, fields);
@@ -38,32 +41,33 @@ class Entry {
   }
 }
 
-// A file on the page: its entries, and how it was read last.
+// A file on the page: its entries, and three ways: how it is asked for, how its entries were read, and how it was to be
+// read again where that was stopped. A file of blocks has no convention, whatever its name is.
 class Source {
   constructor(file, isOpened, refusal = '') {
-    Object.assign(this, { file, isOpened, refusal });
-    this.isBlocks = /\.(cgd|arc)(\.gz)?$/i.test(file.name);
-    this.convention = element('convention').value;
+    Object.assign(this, { file, isOpened, refusal, isBlocks: false, way: null, wayShown: null, wayLeft: null });
     this.entries = [new Entry(this, 'waiting')];
     this.asking = new AbortController();  // of what is asked on single nets
     this.tools = toolsOf(this);
     sources.push(this);
-    this.read();
+    this.read(element('convention').value);
   }
 
-  async read() {
+  async read(convention) {
     this.control?.abort();
     this.control = new AbortController();
     const { signal } = this.control;
-    this.choices = choicesOf();
-    this.isReading = true;
+    this.again.value = convention;
+    Object.assign(this, { way: wayOf(convention), wayLeft: null, isReading: true });
     changed();
-    if (this.refusal) return this.fail(`There is no net: ${this.refusal}.`);
+    if (this.refusal) return this.fail(`No net was read: ${this.refusal}.`);
     if (this.file.size > MOST_BYTES) return this.fail('The file is larger than 64 MB.');
-    const answer = await ask('nets', asFile(this), signal);
+    const answer = await ask('nets', { file: this.file, ...this.way }, signal);
     if (signal.aborted) return null;
-    if (answer.reason) return this.fail(`There is no net: ${answer.reason}.`);
+    if (answer.reason) return this.fail(`No net was read: ${answer.reason}.`);
     this.total = answer.total;
+    this.isBlocks = !answer.isStructure;
+    if (this.isBlocks) this.again.remove();
     this.put([...answer.rows.map(row => new Entry(this, 'known', row)),
       ...answer.waiting.map(item => new Entry(this, 'waiting', { item }))]);
     return this.readRest(signal);
@@ -83,7 +87,9 @@ class Source {
     forget(this.entries);
     this.isReading = false;
     this.entries = entries;
+    this.wayShown = this.way;
     entries.forEach((entry, k) => {
+      entry.way = this.way;
       entry.isOpen = wasOpen[k] || (isFirst && this.isOpened && entries.length <= NETS_OPEN);
       entry.height = heights[k];
     });
@@ -113,14 +119,22 @@ class Source {
     changed();
   }
 
-  // Nothing more is asked for it; what is there stays.
+  // Nothing more is asked for it; what is there stays, and is told as what it is of.
   stop() {
     if (!this.isReading && !this.entries.some(entry => entry.state === 'waiting')) return;
     this.control.abort();
     this.askNoMore();
+    if (this.isReading && this.wayShown) this.stayAsShown();
     this.isReading = false;
     for (const entry of this.entries) if (entry.state === 'waiting') entry.state = 'stopped';
     changed();
+  }
+
+  // Where it was not read again: what is shown is as it was read before, and so says what is chosen for it.
+  stayAsShown() {
+    Object.assign(this, { wayLeft: this.way, way: this.wayShown });
+    this.again.value = this.way.convention;
+    tell(`${this.file.name}: it was not read again; what is shown is as it was read before`);
   }
 
   askNoMore() {
@@ -129,17 +143,17 @@ class Source {
   }
 
   get isStopped() {
-    return this.entries.some(entry => entry.state === 'stopped');
+    return !this.isReading && (this.wayLeft !== null || this.entries.some(entry => entry.state === 'stopped'));
   }
 
   // What was stopped goes on.
   goOn() {
     if (!this.isStopped) return;
-    for (const entry of this.entries) if (entry.state === 'stopped') entry.state = 'waiting';
-    if (!this.entries.some(entry => entry.item)) {
-      this.read();
+    if (this.wayLeft || !this.entries.some(entry => entry.item)) {
+      this.read((this.wayLeft || this.way).convention);
       return;
     }
+    for (const entry of this.entries) if (entry.state === 'stopped') entry.state = 'waiting';
     this.control = new AbortController();
     changed();
     this.readRest(this.control.signal);
@@ -170,14 +184,10 @@ function toolsOf(source) {
   const { name } = source.file;
   source.again = element('convention').cloneNode(true);
   source.again.removeAttribute('id');
-  source.again.value = source.convention;
   source.again.setAttribute('aria-label', `read ${name} again: what is a vertex`);
-  const read = () => {
-    source.convention = source.again.value;
-    source.read();
-  };
+  const read = () => source.read(source.again.value);
   source.again.onchange = read;
-  return make('div', { className: 'tools' }, make('span', { className: 'dim' }, name), !source.isBlocks && source.again,
+  return make('div', { className: 'tools' }, make('span', { className: 'dim' }, name), source.again,
     make('button', { type: 'button', onclick: read, 'aria-label': `read ${name} again with what is chosen above` },
       'read again'),
     make('button', { type: 'button', onclick: () => source.takeAway(), 'aria-label': `take ${name} away` }, 'take away'));

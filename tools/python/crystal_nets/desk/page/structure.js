@@ -8,7 +8,7 @@ function structureOf(entry) {
   if (!entry.provenance?.units?.length) return null;
   const box = make('div', { className: 'structure' }, make('p', { className: 'dim busy' }, 'the atoms are being drawn'));
   whenInSight(box, async () => {
-    const answer = await ask('atoms', { ...asFile(entry.source), block: entry.block }, entry.source.asking.signal);
+    const answer = await ask('atoms', { file: entry.source.file, ...entry.way, block: entry.block }, entry.source.asking.signal);
     keepingFocus(() => answer.reason ? box.replaceChildren(make('p', { className: 'dim' }, `${answer.reason}.`)) : drawStructure(box, entry, answer));
   });
   return box;

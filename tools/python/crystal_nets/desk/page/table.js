@@ -5,10 +5,15 @@ const ROWS_AT_ONCE = 100;
 const PAUSE = 120;  // milliseconds between two paintings of the table
 const collator = new Intl.Collator('en', { numeric: true, sensitivity: 'base' });
 const namesText = entry => (entry.names || []).map(({ name }) => name).join('; ');
-const stateText = entry => ({ waiting: entry.source.isReading ? 'is being read' : 'waits', stopped: 'stopped' })[entry.state];
+const againText = entry => entry.source.isReading ? 'is being read again' : '';
+const stateText = entry => ({ waiting: entry.source.isReading ? 'is being read' : 'waits', stopped: 'stopped' })[entry.state] ?? againText(entry);
+// How a structure was read that a net is of: what became its vertices, and what was ticked.
+const ticksOf = entry => entry.way ? JSON.parse(entry.way.choices) : [];
+const wayText = entry => entry.convention ? [entry.convention, ...ticksOf(entry).map(ticked => labelOf(ticked))].join('; ') : '';
+const labelOf = ticked => element('choices').querySelector(`[value=${ticked}]`).parentElement.textContent.trim();
 const listText = (word, texts) => texts?.length ? `${word}${texts.join('; ')}` : '';
 const toldText = entry => [entry.why, listText('in doubt: ', entry.doubts), listText('left out: ', entry.left_out), stateText(entry),
-  listText('', entry.notes)].filter(Boolean).join(' | ');
+  wayText(entry) && `read by ${wayText(entry)}`, listText('', entry.notes)].filter(Boolean).join(' | ');
 // What is certain of the names of a net without a key stands beside them.
 const certainText = entry => `${namesText(entry)}${entry.names?.length && entry.by ? ` (${entry.by})` : ''}`;
 const sizeText = entry => entry.key ? entry.classes : entry.vertices || '';
@@ -235,10 +240,12 @@ function listenToTable() {
 
 const isKnown = entry => entry.state === 'known' || entry.state === 'failed';
 
-// What is told where nets that are not read yet are not saved.
+// What is told where nets that are not read yet are not saved, and others as they were read before.
 function unreadText(entries) {
   const left = entries.filter(entry => !isKnown(entry)).length;
-  return left ? `${count(left, 'net is', 'nets are')} not read yet, and not among those that are saved` : '';
+  const again = entries.filter(entry => isKnown(entry) && againText(entry)).length;
+  return [left && `${count(left, 'net is', 'nets are')} not read yet, and not among those that are saved`,
+    again && `${count(again, 'net is', 'nets are')} saved as read before, and being read again`].filter(Boolean).join('; ');
 }
 
 // How much of the work is done, and what can be done about it.
@@ -269,9 +276,10 @@ function tableText(entries) {
   };
   const joined = list => (list || []).join('; ');
   const rows = entries.map(entry => [entry.source.file.name, entry.title, namesText(entry), entry.by, joined(entry.degrees),
-    entry.dimension, entry.vertices, entry.edges, entry.classes, entry.copies, entry.convention, entry.key, joined(entry.sequences),
-    joined(entry.doubts), joined(entry.left_out), joined(entry.components), joined(entry.notes), entry.why || stateText(entry)]);
-  const heads = ['file', 'net', 'names', 'by', 'connected', 'dimension', 'vertices', 'edges', 'classes', 'copies', 'convention',
+    entry.dimension, entry.vertices, entry.edges, entry.classes, entry.copies, entry.convention,
+    joined(entry.convention ? ticksOf(entry) : []), entry.key, joined(entry.sequences), joined(entry.doubts), joined(entry.left_out),
+    joined(entry.components), joined(entry.notes), [entry.why, stateText(entry)].filter(Boolean).join(' | ')]);
+  const heads = ['file', 'net', 'names', 'by', 'connected', 'dimension', 'vertices', 'edges', 'classes', 'copies', 'convention', 'choices',
     'key', 'sequences', 'doubts', 'left_out', 'components', 'notes', 'reason'];
   return [heads, ...rows].map(row => `${row.map(quoted).join(',')}\r\n`).join('');
 }

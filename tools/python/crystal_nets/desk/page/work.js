@@ -53,6 +53,3 @@ async function isThere(file) {
     return false;
   }
 }
-
-// The file itself: all that a structure file is asked with.
-const asFile = source => ({ file: source.file, convention: source.convention, choices: source.choices });
