@@ -88,6 +88,19 @@ class Beginning(FolderTest):
         self.assertIn(f"url={server.address}", page)
         self.assertFalse(path.parent.exists())
 
+    def test_a_long_path_of_temporary_files(self):
+        """The path of a socket has 107 bytes at most."""
+        long = self.folder / ("x" * 200)
+        long.mkdir()
+        server = Server(TMPDIR=str(long))
+        found = server.nets("a.cgd", SQL)
+        self.assertEqual((found["total"], server.end()), (1, (0, "", "")))
+        self.assertEqual(list(long.iterdir()), [])
+        from crystal_nets.desk import worker
+        with (mock.patch("tempfile.gettempdir", return_value=str(long)), mock.patch("os.access", return_value=False),
+              self.assertRaisesRegex(OSError, "TMPDIR is too long for a socket")):
+            worker.folder_of_socket()
+
     def test_packages_that_are_not_there(self):
         for name in ("flask", "numpy"):
             (self.folder / f"{name}.py").write_text(f"raise ModuleNotFoundError(\"No module named '{name}'\")\n")

@@ -13,6 +13,7 @@ import resource
 import select
 import signal
 import socket
+import tempfile
 import threading
 import time
 from collections.abc import Callable, Iterator
@@ -30,6 +31,8 @@ LOOK = 0.5                    # seconds between two looks at the clock and the c
 WALL_TIMES = 6                # a worker may wait so many times as long as it may compute
 PACKAGES = Path(__file__).resolve().parents[2]
 OUT_OF_MEMORY = 7             # the status of net_tool
+LONGEST_SOCKET = 107          # bytes of the path of a socket (man 7 unix)
+SOCKET_NAME = "/pymp-12345678/listener-12345678"  # as multiprocessing names it
 
 
 @dataclass(frozen=True)
@@ -75,14 +78,12 @@ class Workers:
         self._context.set_forkserver_preload([f"{__package__}.warm"])
         resource_tracker.ensure_running()  # it unblocks the signals that it blocks
         before = signal.pthread_sigmask(signal.SIG_BLOCK, {signal.SIGINT})  # what comes meanwhile comes after it
-        settings = {"PYTHONPATH": str(PACKAGES), "OPENBLAS_NUM_THREADS": "1", "PYTHONDONTWRITEBYTECODE": "1"}
-        kept = {name: os.environ.get(name) for name in settings}
-        os.environ.update(settings)
+        paths = os.pathsep.join(filter(None, (str(PACKAGES), os.environ.get("PYTHONPATH"))))
+        settings = {"PYTHONPATH": paths, "OPENBLAS_NUM_THREADS": "1", "PYTHONDONTWRITEBYTECODE": "1"}
         try:
-            forkserver.ensure_running()
+            with surroundings(folder_of_socket(), settings):
+                forkserver.ensure_running()
         finally:
-            for name, value in kept.items():
-                os.environ.pop(name) if value is None else os.environ.update({name: value})
             signal.pthread_sigmask(signal.SIG_SETMASK, before)
 
     def ask(self, question: Callable[..., Any], *arguments: Any, client: socket.socket | None = None) -> bytes:
@@ -154,6 +155,28 @@ class Workers:
         last = time.monotonic() + 5
         while self._running and time.monotonic() < last:
             time.sleep(0.02)
+
+
+def folder_of_socket() -> str:
+    """A folder in which the path of a socket is not too long: that of temporary files, or else one that is usual."""
+    for folder in (tempfile.gettempdir(), os.environ.get("XDG_RUNTIME_DIR", ""), "/tmp", "/var/tmp", "/dev/shm"):
+        if folder and len(os.fsencode(folder + SOCKET_NAME)) <= LONGEST_SOCKET and os.access(folder, os.W_OK | os.X_OK):
+            return folder
+    raise OSError("the path of TMPDIR is too long for a socket, and /tmp cannot be written; give a shorter one")
+
+
+@contextmanager
+def surroundings(folder: str, settings: dict[str, str]) -> Iterator[None]:
+    """Has temporary files in a folder, and variables of the environment, as long as it lasts."""
+    before, kept = tempfile.tempdir, {name: os.environ.get(name) for name in settings}
+    tempfile.tempdir = folder
+    os.environ.update(settings)
+    try:
+        yield
+    finally:
+        tempfile.tempdir = before
+        for name, value in kept.items():
+            os.environ.pop(name) if value is None else os.environ.update({name: value})
 
 
 def name_of_signal(number: int) -> str:

@@ -4,6 +4,7 @@ from __future__ import annotations
 
 import argparse
 import gc
+import multiprocessing
 import os
 import re
 import signal
@@ -156,7 +157,7 @@ def conversions(sources: list[Source], options: Options, jobs: int) -> Iterator[
         return
     rest = iter(sources)
     portions = iter(lambda: list(islice(rest, PORTION)), [])
-    with ProcessPoolExecutor(jobs) as pool:
+    with ProcessPoolExecutor(jobs, multiprocessing.get_context("fork")) as pool:
         ahead: deque[tuple[list[Source], Future]] = deque()
         for portion in portions:
             ahead.append((portion, pool.submit(convert_all, portion, options, stdin)))

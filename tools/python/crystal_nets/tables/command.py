@@ -6,6 +6,7 @@ import argparse
 import contextlib
 import fcntl
 import gc
+import multiprocessing
 import os
 import re
 import signal
@@ -217,7 +218,8 @@ def _made(work: Path, plan: Plan, numbers: list[int], jobs: int) -> Generator[Ca
         for number in numbers:
             yield partial(make_rows, path_of(work, number), plan.piece(number))
         return
-    with ProcessPoolExecutor(min(jobs, len(numbers)), initializer=end_with_parent, initargs=(os.getpid(),)) as pool:
+    with ProcessPoolExecutor(min(jobs, len(numbers)), multiprocessing.get_context("fork"), end_with_parent,
+                             (os.getpid(),)) as pool:
         futures = [pool.submit(make_rows, path_of(work, number), plan.piece(number)) for number in numbers]
         try:
             for future in as_completed(futures):
