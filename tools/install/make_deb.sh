@@ -47,6 +47,9 @@ mv "$root/usr/share/doc/net_tool" "$root/usr/share/doc/$name"
 install -m 644 -- "$here/copyright" "$root/usr/share/doc/$name/copyright"
 mkdir -p "$root/usr/lib/python3"
 mv "$root/usr/share/net_tool/tools/python" "$root/usr/lib/python3/dist-packages"
+# a link for the commands, which find the module so in any folder that the package is unpacked into
+mkdir "$root/usr/share/net_tool/tools/python"
+ln -s ../../../../lib/python3/dist-packages/crystal_nets "$root/usr/share/net_tool/tools/python/crystal_nets"
 
 # the newest version of the C library that a symbol of the program asks for
 libc=$(objdump -T "$root/usr/lib/net_tool/net_tool" | sed -n 's/.*GLIBC_\([0-9.]*\).*/\1/p' | sort -V | tail -n 1)

@@ -356,7 +356,7 @@ class Package(FolderTest):
         self.assertNotIn(" ./root", content)
         self.assertIn("./usr/lib/python3/dist-packages/crystal_nets/py.typed", content)
         self.assertIn("./usr/lib/python3/dist-packages/crystal_nets/pictures/page.html", content)
-        self.assertNotIn("share/net_tool/tools/python", content)
+        self.assertEqual(content.count("share/net_tool/tools/python/crystal_nets"), 1)  # a link
 
     def test_the_module_and_the_commands_of_the_package_work_together(self):
         root = self.folder / "root"
@@ -367,6 +367,19 @@ class Package(FolderTest):
         self.assertEqual(told, f"{root}/usr/lib/net_tool/net_tool 2 1 1 1 1 0 1 1 1 1 0\n")
         blocks = run(root / "usr/bin/archive_nets", root / "usr/share/net_tool/archives/common.archive", **settings).stdout
         self.assertEqual(blocks.count(b"END\n"), (TOOLS.parent / "archives/common.archive").read_bytes().count(b"\nentry "))
+
+    def test_each_command_runs_where_the_package_is_unpacked(self):
+        """By who may not install it, in a folder of any name."""
+        need_modules("gemmi", "numpy", "scipy", "flask")
+        root = self.folder / "a folder é"
+        run("dpkg-deb", "-x", self.build(), root)
+        settings = {"PYTHONPATH": "", "NET_TOOL": "", "XDG_DATA_HOME": "", "HOME": str(self.folder)}
+        commands = sorted((root / "usr/bin").iterdir())
+        self.assertGreater(len(commands), 15)
+        for command in commands:
+            self.assertEqual(run(command, "--help", **settings).stderr, b"", command.name)
+        named = run(root / "usr/bin/name_nets", root / "usr/share/net_tool/examples/quartz.cif", **settings).stdout
+        self.assertEqual(named, b"1\tquartz\tqtz, quartz\tkey\n")
 
     def test_the_same_sources_give_the_same_package(self):
         first = self.build().read_bytes()
