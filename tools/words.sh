@@ -159,10 +159,18 @@ has_line() {
     LC_ALL=C grep -a -q -i -E "$1" -- "$2" 2>/dev/null
 }
 
+# a word as a shell reads it, in quotes where it needs them
+quoted() {
+    case $1 in
+    *[!A-Za-z0-9_./+:@%,-]*) echo "'$(printf '%s\n' "$1" | sed "s/'/'\\\\''/g")'" ;;
+    *) echo "$1" ;;
+    esac
+}
+
 # says why nets have no names, where no archive was asked
 hint_of_archive() {
     [ "$command_given" = identify ] && [ -z "$archive_given" ] || return 0
-    echo "net_tool: no archive was asked, so no net has a name; try --archive $archives/common.archive" >&2
+    echo "net_tool: no archive was asked, so no net has a name; try --archive $(quoted "$archives/common.archive")" >&2
 }
 
 # says that a key goes on in a line that union does not read

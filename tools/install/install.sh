@@ -90,5 +90,5 @@ for command in $commands; do
     tools/cgd2net/make_archives | archives/take_rcsr) ln -sf -- cgd2net.1.gz "$to/share/man/man1/$name.1.gz" ;;
     esac
 done
-echo "installed under $to; try: net_tool identify $1/share/net_tool/examples/mystery.cgd" \
-    "--archive $1/share/net_tool/archives/common.archive"
+echo "installed under $to; try: net_tool identify $(quoted "$1/share/net_tool/examples/mystery.cgd")" \
+    "--archive $(quoted "$1/share/net_tool/archives/common.archive")"

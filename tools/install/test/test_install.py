@@ -123,6 +123,16 @@ class Installed(FolderTest):
         for words in (f"identify {dia} --archive {archive}", f"identify --archive={archive} {dia}", f"key {dia}"):
             self.assertEqual(self.told(f"net_tool {words}", 0)[1], "")
 
+    def test_what_is_to_be_tried_can_be_tried(self):
+        """A shell takes the words as they are told, whatever the folder is called."""
+        prefix = self.folder / "it's a folder é"
+        tried = run(INSTALL / "install.sh", prefix, PROGRAM).stdout.decode().partition("try: ")[2]
+        path = f"{prefix}/bin:{os.environ['PATH']}"
+        self.assertEqual(names_told(run("sh", "-c", tried, PATH=path).stdout), EIGHT_NAMES)
+        dia = shlex.quote(str(prefix / "share/net_tool/examples/dia.cgd"))
+        tried = run("sh", "-c", f"net_tool identify {dia}", PATH=path).stderr.decode().strip().partition("; try ")[2]
+        self.assertEqual(names_told(run("sh", "-c", f"net_tool identify {dia} {tried}", PATH=path).stdout), [b"dia, diamond"])
+
     def test_a_reader_that_has_enough_is_no_fault(self):
         many = self.folder / "many.cgd"
         many.write_bytes((self.share / "examples/dia.cgd").read_bytes() * 4000)
