@@ -120,6 +120,12 @@ class Files(FolderTest):
         done = run(BATCH / "name_nets", self.folder / "empty.cgd", status=1)
         self.assertIn(b"empty.cgd has no net", done.stderr)
 
+    def test_streams_that_are_closed_change_no_status(self):
+        need_program()
+        for closed in ("<&-", "2>&-", "<&- 2>&-"):
+            done = run("sh", "-c", f'"$0" "$1" {closed}', BATCH / "name_nets", TOP / "examples/sql.cgd")
+            self.assertTrue(done.stdout.endswith(b"\tsql, square lattice\tkey\n"), closed)
+
     def test_names_that_are_no_utf8(self):
         """Where the language is strict, a name is told as the bytes that it is."""
         need_program()
