@@ -8,6 +8,7 @@ use Rattle.std.proofs.lemmas.List.Elements.{All-head, All-tail, All-push, filter
 use Rattle.std.proofs.lemmas.List.Elements.{Contains-push}
 use Rattle.std.specs.List.{enumerate_from, filter_map, list_any}
 use Rattle.std.proofs.lemmas.Map.Views.{list_any-from_Contains, Contains-from_any, any-filter_same}
+use Rattle.std.proofs.{Common.nat_lt, lemmas.Bool.ltb-true}
 use Rattle.std.{proofs.lemmas.Bool.cases_eq, proofs.lemmas.Bool.ne_eqb, proofs.lemmas.List.Quantifiers.all_pairs_push, proofs.lemmas.Grind.common_steps}
 use Rattle.std.{proofs.lemmas.Cmp.nat_list_eq_equiv, proofs.lemmas.Slice.Eq.bytes_eq-Decides, specs.declared.alloc.Global.Global, specs.Str.bytes_eq}
 use Rattle.std.{specs.Option.option_to_list, proofs.lemmas.Option.slice_get-map, proofs.lemmas.Option.slice_get-get_or}
@@ -244,6 +245,13 @@ module _ (items : List Entry) (views : List EntryView) (v : entry_views items �
       → numbers ≡ key → print ≡ key_print numbers → places ≡ places_of keys print → numbers_at (entry_views lent) key places ≡ numbers_with key views
   numbers_there lent names keys key numbers print places l i n p h = grind (arith, numbers_found)
 
+-- the entry that is lent at a place
+pub lent_there : (es : List Entry) (place : ℕ) (e : Entry) → true ≡ nat_lt place (length es) → e ≡ get_or es place e
+    → slice_get (entry_views es) place ≡ Some (entry_view e)
+lent_there es place e l at =
+    let long = length-map es entry_view in let low = ltb-true place (length es) (sym l) in
+    entry_there es (entry_views es) refl place e at (omega (arith, long, low))
+
 -- The groups that were found before a place.
 
 -- these are the groups whose first numbers are at most n
@@ -323,6 +331,14 @@ number_there (f ∷ fs) z others (n ∷ ns) short e = number_there fs z others n
 after_first : {X : Type 0} (xs : List X) (x d : X) → 1 ≤ length xs → get_or xs 0 d ≡ x → xs ≡ x ∷ take (length xs - 1) (drop 1 xs)
 after_first [] x d some is = absurd (omega (arith, some))
 after_first (y ∷ ys) x d some is = ap (λ z. z ∷ ys) is ∙ ap (λ l. x ∷ l) (sym (take_rest (y ∷ ys) 1))
+
+-- the number of the entry at the first place, where that has the key, comes before those at the others
+pub number_first : (es : List EntryView) (key : List ℤ) (left : List ℕ) (e : EntryView) → 1 ≤ length left → slice_get es (get_or left 0 0) ≡ Some e
+    → true ≡ same_key e.key key → numbers_at es key left ≡ (get_or left 0 0 + 1) ∷ numbers_at es key (take (length left - 1) (drop 1 left))
+number_first es key left e some stands same =
+    let place = get_or left 0 0 in let others = filter (λ i. is_keyed key (slice_get es i)) (take (length left - 1) (drop 1 left)) in
+    ap (numbers_at es key) (after_first left place 0 some refl)
+    ∙ ap (λ (b : Bool). map (λ i. i + 1) (cond b (place ∷ others) others)) (ap (is_keyed key) stands ∙ sym same)
 
 -- one more number of a list
 pub one_more_number : (sizes new : List ℕ) (left numbers : List ℤ) (size : ℕ) (d : ℤ) → map pos sizes ++ left ≡ numbers → 1 ≤ length left

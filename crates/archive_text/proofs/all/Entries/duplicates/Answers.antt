@@ -1,4 +1,4 @@
--- Of `duplicates`: the loop over `place`; what it ensures.
+-- Of `duplicates`: the loop over `place`; what `group_from` requires; what it ensures.
 use Rattle.std.proofs.Common.{◌≡◌, ℕ, ◌+◌, ◌≤◌, ap, sym, subst, ◌∙◌, List, length, Option, IfNone, IfSome, Vec, arith}
 use Rattle.std.{proofs.lemmas.List.length-map, specs.declared.alloc.Global.Global}
 use Rattle.archive_text.specs.{Entries.entry_view, Groups.IsGroupFrom, Groups.numbers_in}
@@ -8,6 +8,11 @@ use Rattle.archive_text.proofs.all.Entries.duplicates.Goals as goal
 
 pub loop-place-init : goal.loop-place-init
 loop-place-init c = no_groups c.args.self.now (numbers_in c.new-groups.result.items) (ap numbers_in c.new-groups.ensures.items)
+
+pub group_from-requires : goal.group_from-requires
+group_from-requires c =
+    let count : length c.args.self.now ≡ length c.self.inside.items.items = ap length (sym c.self.view_is) ∙ length-map c.self.inside.items.items entry_view in
+    omega (arith, count, c.len-place-end.ensures, c.loop-place-test.true)
 
 pub loop-place-preserved : goal.loop-place-preserved
 loop-place-preserved c =
