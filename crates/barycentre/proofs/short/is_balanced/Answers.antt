@@ -16,9 +16,13 @@ pub vector_of-requires : goal.vector_of-requires
 vector_of-requires g c =
     let rd = c.ranges.d0 in let G = c.args.g.now in let u = c.args.u in let a = c.arc-item.result in
     let f = subst (IsArcFrom G u) (sym c.arc-item.is) (c.arcs-arc-items.ensures.each c.loop-arc.arc-index a c.loop-arc-test.true) in
-    let v = c.requires.vertex in let n = c.requires.count in
-    (lit< tt, ((omega (arith, f.from, v.0), omega (arith, f.from, v.1, n)),
-    ((f.to.0, omega (arith, f.to.1, n)), (f.shift, (simp to_z-of_z c.requires.positive, simp to_z-of_z c.requires.reach)))))
+    let v = c.requires.vertex in let n = c.requires.count in (
+      lit< tt,
+      (
+        (omega (arith, f.from, v.0), omega (arith, f.from, v.1, n)),
+        ((f.to.0, omega (arith, f.to.1, n)), (f.shift, (simp to_z-of_z c.requires.positive, simp to_z-of_z c.requires.reach))),
+      ),
+    )
 
 pub of_triple-step-requires : goal.of_triple-step-requires
 of_triple-step-requires g c =
