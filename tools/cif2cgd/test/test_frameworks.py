@@ -266,7 +266,7 @@ class Conventions(unittest.TestCase):
             self.assertEqual(symbols_of(done.text), {kind: "hcb"})
             self.assertIn("each molecule is a vertex", done.text.decode().splitlines()[0])
             done = convert(Source(kind, kind, kind), content.encode(), Options())
-            self.assertIn("no net: ", done.told(is_quiet=True)[0])
+            self.assertIn("no net: ", "\n".join(done.told(is_quiet=True)))
 
 
 def trimesic_acid() -> Atoms:
