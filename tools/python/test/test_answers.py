@@ -161,7 +161,7 @@ class Streams(AnswerTest):
         def sources():
             for place in range(400):
                 taken.append(place)
-                yield (DIA, PCU, SQL.edges, "no\nnet\n")[place % 4]
+                yield (DIA, PCU, SQL.edges, "no\nblock\n")[place % 4]
 
         answers = identify_each(sources(), archive=self.archive, processes=2)
         first = next(answers)
