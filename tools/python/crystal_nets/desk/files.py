@@ -11,7 +11,7 @@ from ..errors import NotANet
 from ..net import Net
 from ..other_forms import is_json
 from ..reading import holds_structure, net_of_chunk, read, unpacked
-from ..texts.net_text import Chunk, chunks_of
+from ..texts.net_text import chunk_at, chunks_of
 from .kinds import kind_of
 
 MOST_NETS = 20_000  # of a file; net_table takes more
@@ -30,7 +30,7 @@ class Unread:
     def net(self) -> Net:
         """The net of the block, or why it gives none."""
         try:
-            return net_of_chunk(Chunk(self.line, self.line, list(BytesIO(self.text))))
+            return net_of_chunk(chunk_at(self.line, self.text))
         except NotANet as reason:  # a text of another kind
             return Net.refused(str(reason))
 

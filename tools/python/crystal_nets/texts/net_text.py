@@ -9,6 +9,7 @@ from __future__ import annotations
 import re
 from collections.abc import Iterable, Iterator
 from dataclasses import dataclass, field
+from io import BytesIO
 
 from ..files import told_encoding
 
@@ -89,6 +90,13 @@ def ends_stray(line: bytes, word: bytes, opening: bytes) -> bool:
     if word in OPENERS:
         return ALONE.fullmatch(line) is not None
     return word == b"KEY" and KEY_LINE.match(line) is not None and opening not in (*OPENERS, *OTHER_TEXTS, b"ENTRY")
+
+
+def chunk_at(line: int, text: bytes) -> Chunk:
+    """The piece that was cut out of a longer text, from the line on that opens its block or item."""
+    lines = list(BytesIO(text))
+    word = first_word(lines[0])
+    return Chunk(line, line, lines, word in ITEM_WORDS, is_stray(lines[0], word))
 
 
 def told_of_stray(line: int, count: int, opening: bytes) -> str:
