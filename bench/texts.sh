@@ -160,6 +160,21 @@ wide_stars() {
     }'
 }
 
+# n blocks of two vertices with 58 loops each: nothing that is spared with one class is spared here
+two_stars() {
+    awk -v n="$1" 'BEGIN {
+        for (k = 0; k < n; k++) {
+            print "PERIODIC_GRAPH"; print "NAME v" k; print "EDGES"; print "1 1 3 0 0"; print "1 2 0 0 0"; print "1 2 0 0 1"
+            for (v = 1; v < 3; v++) {
+                left = 56 + v
+                for (x = 0; x < 3; x++) for (y = -2; y < 3; y++) for (z = -2; z < 3; z++)
+                    if (left > 0 && (x > 0 || y > 0 || (y == 0 && z > 0))) { print v, v, 2 * x, y, z; left-- }
+            }
+            print "END"
+        }
+    }'
+}
+
 # one block of 46 parts, each such a vertex
 parted_stars() {
     awk -v n="$1" 'BEGIN {
