@@ -173,6 +173,17 @@ class Formats(FolderTest):
             self.assertNotIn(b"Traceback", told)
             self.assertNotIn(b"cif2cgd failed", told)
 
+    def test_more_atoms_than_rows_are_not_looked_for(self):
+        """ase would look for 10^11 rows."""
+        need_modules("ase")
+        file = self.folder / "far.xyz"
+        for text, told in (("9" * 11 + self.EXTXYZ[1:], b"99999999999 atoms are counted in line 1, and 1 rows are there"),
+                           (self.EXTXYZ + "3\n" + self.EXTXYZ[2:], b"3 atoms are counted in line 4, and 1 rows are there")):
+            file.write_text(text)
+            self.assertIn(told, run(COMMAND, file, status=1, seconds=20).stderr)
+        file.write_text("1\nLattice=\"3 0 0 0 3 0 0 0 3\"\nC7x 0 0 0\n")
+        self.assertIn(b"'C7x' is no element and no column of it", run(COMMAND, file, status=1).stderr)
+
 
 if __name__ == "__main__":
     unittest.main()
