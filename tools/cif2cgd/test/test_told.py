@@ -140,6 +140,12 @@ class ListedBonds(Kinds):
         self.assertEqual(self.doubts(self.TEXT + self.ALL, bonds="both"), "")
         self.assertIn("O1-Ti1 taken, and not listed in the file", self.doubts(self.TEXT + short, bonds="both"))
 
+    def test_a_bond_of_one_site_with_itself_is_told_by_both_ends(self):
+        silicon = cif_text(cubic(5.431), [("Si1", "Si", 0.125, 0.125, 0.125)], name="F d -3 m:2")
+        listed = self.ALL.partition("Ti1")[0] + "Si1 Si1 3.840\n"
+        self.assertIn("Si1-Si1 taken, and not listed in the file; Si1-Si1 left out, and listed in the file",
+                      self.doubts(silicon + listed, bonds="both"))
+
 
 class Formats(FolderTest):
     POSCAR = "copper\n1.0\n0 1.805 1.805\n1.805 0 1.805\n1.805 1.805 0\nCu\n1\nDirect\n0 0 0\n"
