@@ -80,6 +80,10 @@ class Kinds(FolderTest):
         packed.write_bytes(lzma.compress(CAESIUM_CHLORIDE.encode()))
         protein = self.folder / "b.gro"
         protein.write_text("water\n 1\n    1WAT  OW1    1   0.126   1.624   1.679\n   1.8   1.8   1.8\n")
+        structure = self.folder / "c.json"
+        structure.write_text('{"lattice": {}, "sites": []}')
+        told = run(COMMAND, structure, status=1).stderr
+        self.assertIn(b"it is the JSON of a structure, which net_table and the module crystal_nets read", told)
         for file, told in ((packed, "it is a file packed by xz: unpack it first"),
                            (protein, "it is a file of GROMACS, which is not read: make a CIF of it")):
             done = run(COMMAND, file, status=1)

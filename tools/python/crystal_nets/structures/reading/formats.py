@@ -14,7 +14,7 @@ from typing import Any
 
 from ...errors import PackageMissing, lacking
 from ...kinds import kind_of
-from ...other_forms import is_poscar
+from ...other_forms import is_json, is_poscar
 from ...provenance import DROPPED, Note
 from ...reading import CIF_SUFFIXES
 from ...refusal import Refused
@@ -25,6 +25,7 @@ from .poscar import as_ase_reads
 from .structure import read_crystal
 
 XYZ_SUFFIXES = (".xyz", ".extxyz")
+OF_PYMATGEN = "the JSON of a structure, which net_table and the module crystal_nets read"
 
 
 @dataclass(frozen=True)
@@ -46,7 +47,7 @@ def structures_of(content: bytes, file: str, stem: str) -> list[Structure]:
     try:
         blocks = blocks_of(content, stem)
     except Refused as reason:
-        kind = kind_of(content, PurePath(file).name)
+        kind = OF_PYMATGEN if is_json(content) else kind_of(content, PurePath(file).name)
         raise Refused(f"it is {kind}" if kind else str(reason)) from reason
     return [Structure(block.name, block.cif.name, block.notes, partial(read_crystal, block)) for block in blocks]
 
