@@ -36,6 +36,14 @@ class Doubts(Kinds):
             self.assertEqual(bool(told), bool(doubt), stated)
             self.assertIn(doubt, told)
 
+    def test_a_carbon_with_too_many_neighbours_is_told(self):
+        """Diamond by the other origin; carbon of a carbide, and of diamond itself, is right."""
+        diamond = cif_text(cubic(3.567), [("C1", "C", 0, 0, 0)], name="F d -3 m:2")
+        self.assertIn("C with 6 neighbours, more than it can have", self.doubts(diamond))
+        self.assertEqual(self.doubts(diamond.replace("m:2", "m:1")), "")
+        carbide = cif_text(cubic(4.328), [("Ti1", "Ti", 0, 0, 0), ("C1", "C", 0.5, 0.5, 0.5)], name="F m -3 m")
+        self.assertNotIn("neighbours", self.doubts(carbide))
+
     def test_two_heavy_nonmetals_have_no_triple_bond(self):
         self.assertLess(1.87, shortest_of_nonmetals("As", "S"))
         self.assertLess(shortest_of_nonmetals("As", "S"), 2.2)

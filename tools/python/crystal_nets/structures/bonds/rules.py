@@ -30,6 +30,7 @@ CLOSE = 0.05      # from one of these bounds, or less: told as a doubt
 # is 2.14 in nitrates, and 2.16 in carbon tetrafluoride. Those that are nearer are told as a doubt.
 LEAST_APART = 2.10
 NEVER_NEAR = frozenset(("O", "F"))
+MOST_NEIGHBOURS = {"C": 4, "N": 4}  # nonmetals other than hydrogen and boron
 # Middles of anions with a lone pair, and how many neighbours they have at most beside it: nitro groups are joined by N,
 # sulfites, sulfinates and phosphites by S and P.
 WITH_LONE_PAIR = {"N": 2, "P": 3, "As": 3, "S": 3, "Se": 3, "Te": 3}
@@ -58,7 +59,20 @@ def find_bonds(crystal: Crystal, hydrogen_bonds: bool, lengths: Lengths, doubts:
     else:
         bonds = radius_bonds(crystal, doubts)
         bonds |= hydrogen_bridges(crystal) if hydrogen_bonds else hydrate_bonds(crystal, bonds, doubts)
-    return with_lengths(crystal, bonds, lengths) if lengths else bonds
+    bonds = with_lengths(crystal, bonds, lengths) if lengths else bonds
+    doubts += _too_many(crystal, bonds)
+    return bonds
+
+
+def _too_many(crystal: Crystal, bonds: set[Edge]) -> list[str]:
+    """The doubts about full carbons and nitrogens with more neighbours than they have in any molecule, as where a group
+    has another origin. Hydrogens, boron of carboranes and metals do not count."""
+    elements = [atom.site.element if atom.occupancy >= FULL else "" for atom in crystal.atoms]
+    counts = Counter(one for bond in bonds for one, other in ((bond.u, bond.v), (bond.v, bond.u))
+                     if elements[one] in MOST_NEIGHBOURS and elements[other] not in ("", "H", "B")
+                     and not is_metal(elements[other]))
+    return sorted({f"{elements[v]} with {count} neighbours, more than it can have" for v, count in counts.items()
+                   if count > MOST_NEIGHBOURS[elements[v]]})
 
 
 def _has_shells(crystal: Crystal) -> bool:
