@@ -8,6 +8,7 @@ from testing import need_modules
 need_modules("gemmi", "numpy", "scipy")
 from kinds import Kinds, cif_text, cubic  # noqa: E402
 
+from crystal_nets.refusal import Refused  # noqa: E402
 from crystal_nets.structures.atoms.elements import element_of  # noqa: E402
 from crystal_nets.structures.bonds.lengths import shortest_of_nonmetals  # noqa: E402
 from crystal_nets.structures.bonds.rules import find_bonds  # noqa: E402
@@ -57,6 +58,10 @@ class Labels(unittest.TestCase):
             self.assertEqual(element_of("", label, {}), element, label)
         self.assertEqual(element_of("No", "No1", {}), "No")  # of a program that has it so
         self.assertEqual(element_of("CN", "CN1", {}), "C")
+
+    def test_an_atom_without_any_is_told(self):
+        with self.assertRaisesRegex(Refused, "an atom has neither a label nor a type symbol"):
+            element_of("", "", {})
 
 
 class LonePairs(Kinds):

@@ -41,7 +41,8 @@ def element_of(symbol: str, label: str, formula: dict[str, float]) -> str:
         return "O"
     found = _reading(symbol, formula, is_symbol=True) or _reading(label, formula)
     if not found:
-        raise Refused(f"the element of atom {label!r} is not known")
+        raise Refused(f"the element of atom {label!r} is not known" if label else
+                      "an atom has neither a label nor a type symbol")
     return "H" if found == "D" else found
 
 
