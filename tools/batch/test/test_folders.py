@@ -47,6 +47,14 @@ class Walks(FolderTest):
         done = run(BATCH / "net_table", self.folder, self.folder / "table", "--no-names", status=FAILED, seconds=60)
         self.assertIn(b"is no file, but a pipe", done.stderr)
 
+    def test_what_is_passed_over_is_told(self):
+        (self.folder / "source").mkdir()
+        (self.folder / "source/a.cgd").write_bytes(SQUARE % b"sql")
+        for name in ("b.pdb", "c.cgd.xz", "readme.txt"):
+            (self.folder / "source" / name).touch()
+        done = run(BATCH / "net_table", self.folder / "source", self.folder / "table", "--no-names")
+        self.assertIn(b"source: passed over, of kinds that are not read: b.pdb c.cgd.xz\n", done.stderr)
+
 
 class Unreadable(FolderTest):
     """As another user, where this one is root."""

@@ -2,6 +2,7 @@
 
 import glob
 import json
+import lzma
 import os
 import random
 import re
@@ -11,6 +12,8 @@ from testing import PROGRAM, TOOLS, TOP, FolderTest, IS_LONG, need_modules, need
 
 need_modules("gemmi", "numpy", "scipy")
 from structures import STRUCTURES, cif_text, presentations  # noqa: E402
+
+from crystal_nets.reading import read  # noqa: E402
 
 COMMAND = TOOLS / "cif2cgd/cif2cgd"
 AVOGADRO = sorted(glob.glob("/usr/share/avogadro*/crystals/*/*.cif"))
@@ -65,6 +68,50 @@ class Names(FolderTest):
                 symbols = re.findall(r'(?m)^name "([^",]*)', part)
                 found.setdefault(structure, set()).update(s if s != "SOD" else "sod" for s in symbols)
         return found
+
+
+class Kinds(FolderTest):
+    """Files of kinds that are not read, and POSCAR files of a folder."""
+
+    POSCAR = "Si\n1.0\n0 2.7 2.7\n2.7 0 2.7\n2.7 2.7 0\nSi\n2\nDirect\n0 0 0\n.25 .25 .25\n"
+
+    def test_structures_of_other_kinds_are_named(self):
+        packed = self.folder / "a.cif.xz"
+        packed.write_bytes(lzma.compress(CAESIUM_CHLORIDE.encode()))
+        protein = self.folder / "b.gro"
+        protein.write_text("water\n 1\n    1WAT  OW1    1   0.126   1.624   1.679\n   1.8   1.8   1.8\n")
+        structure = self.folder / "c.json"
+        structure.write_text('{"lattice": {}, "sites": []}')
+        told = run(COMMAND, structure, status=1).stderr
+        self.assertIn(b"it is the JSON of a structure, which net_table and the module crystal_nets read", told)
+        for file, told in ((packed, "it is a file packed by xz: unpack it first"),
+                           (protein, "it is a file of GROMACS, which is not read: make a CIF of it")):
+            done = run(COMMAND, file, status=1)
+            self.assertEqual(done.stderr.decode(), f"{file.name}: refused: {told}\n")
+            net, = read(file)
+            self.assertTrue(net.refusal.endswith(told), net.refusal)
+
+    def test_a_text_of_blocks_is_one_whatever_its_name(self):
+        file = self.folder / "nets.gro"
+        file.write_text("PERIODIC_GRAPH\nNAME sql\nEDGES\n1 1 1 0\n1 1 0 1\nEND\n")
+        self.assertEqual([net.name for net in read(file)], ["sql"])
+
+    def test_what_is_passed_over_in_a_folder_is_told(self):
+        (self.folder / "a.cif").write_text(CAESIUM_CHLORIDE)
+        for name in ("b.pdb", "c.cif.xz", "readme.txt", "d.res", "POSCAR_1.zip"):
+            (self.folder / name).touch()
+        done = run(COMMAND, "--quiet", self.folder)
+        self.assertEqual(done.stderr.decode(), f"{self.folder}: passed over, of kinds that are not read: "
+                         "POSCAR_1.zip b.pdb c.cif.xz and 1 more\n")
+
+    def test_poscar_files_of_a_folder(self):
+        need_modules("ase")
+        names = ("POSCAR", "POSCAR.2", "POSCAR_03", "CONTCAR.relaxed", "x_POSCAR", "y.vasp")
+        for name in (*names, "make_poscar.py", "POSCAR.md", "postcar"):
+            (self.folder / name).write_text(self.POSCAR)
+        found = re.findall(rb'NAME "?([^"\n]*)', run(COMMAND, "--quiet", self.folder).stdout)
+        self.assertEqual(sorted(found), sorted(name.removesuffix(".vasp").encode() for name in names))
+        self.assertEqual({net.name for net in read(self.folder)}, {name.removesuffix(".vasp") for name in names})
 
 
 class Words(FolderTest):

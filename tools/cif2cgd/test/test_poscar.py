@@ -53,6 +53,14 @@ class Poscar(unittest.TestCase):
         for scale in ("1.0 1.0 2.0", "1.0 2.0", "scale"):
             self.assertIn("refused: no POSCAR with one scale", told(poscar(scale)))
 
+    def test_structures_behind_the_first_are_told(self):
+        steps = poscar(mode="Direct configuration=     1\n") + "Direct configuration=     2\n" + lines_of(PLACES)
+        for text, count in ((steps, 2), (steps + "Direct configuration= 3\n" + lines_of(PLACES), 3), (poscar() + poscar(), 2)):
+            self.assertEqual(read(text).text, self.net)
+            self.assertEqual(told(text), f"POSCAR: the first of {count} structures is read")
+        corrector = "\n" + lines_of(PLACES) + "\n 1\n 0.1E+01\n 0.0 0.0 0.0\n" + 3 * lines_of(PLACES)
+        self.same(poscar() + corrector)
+
     def test_modes(self):
         flags = " T F T\n"
         self.same(poscar(mode="Selective dynamics\nDirect\n", rows=lines_of(PLACES).replace("\n", flags)))

@@ -293,6 +293,12 @@ class Files(Reading):
         self.assertRegex(self.convert(QUARTZ + "_a.b 1\n_a.b 2\n")[1],
                          rf"the tag _a.b stands twice, in lines {count + 1} and {count + 2}\n")
 
+    def test_a_block_of_atoms_without_coordinates_is_told(self):
+        other = QUARTZ.replace("data_", "data_other_").replace("_fract_", "_other_")
+        rows, told = self.convert(QUARTZ + other + "data_pattern\n_cell_length_a 5\n")
+        self.assertEqual(rows.count("PERIODIC_GRAPH"), 1)
+        self.assertRegex(told, r"\Atest.cif: the block other_\w+ has atoms without coordinates, and is passed over\n")
+
     def test_tags_with_dots(self):
         dotted = QUARTZ
         for category in ("_cell", "_atom_site", "_space_group", "_symmetry_equiv"):

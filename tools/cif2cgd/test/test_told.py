@@ -140,6 +140,12 @@ class ListedBonds(Kinds):
         self.assertEqual(self.doubts(self.TEXT + self.ALL, bonds="both"), "")
         self.assertIn("O1-Ti1 taken, and not listed in the file", self.doubts(self.TEXT + short, bonds="both"))
 
+    def test_a_bond_of_one_site_with_itself_is_told_by_both_ends(self):
+        silicon = cif_text(cubic(5.431), [("Si1", "Si", 0.125, 0.125, 0.125)], name="F d -3 m:2")
+        listed = self.ALL.partition("Ti1")[0] + "Si1 Si1 3.840\n"
+        self.assertIn("Si1-Si1 taken, and not listed in the file; Si1-Si1 left out, and listed in the file",
+                      self.doubts(silicon + listed, bonds="both"))
+
 
 class Formats(FolderTest):
     POSCAR = "copper\n1.0\n0 1.805 1.805\n1.805 0 1.805\n1.805 1.805 0\nCu\n1\nDirect\n0 0 0\n"
@@ -172,6 +178,17 @@ class Formats(FolderTest):
             self.assertIn(b": refused: ", told)
             self.assertNotIn(b"Traceback", told)
             self.assertNotIn(b"cif2cgd failed", told)
+
+    def test_more_atoms_than_rows_are_not_looked_for(self):
+        """ase would look for 10^11 rows."""
+        need_modules("ase")
+        file = self.folder / "far.xyz"
+        for text, told in (("9" * 11 + self.EXTXYZ[1:], b"99999999999 atoms are counted in line 1, and 1 rows are there"),
+                           (self.EXTXYZ + "3\n" + self.EXTXYZ[2:], b"3 atoms are counted in line 4, and 1 rows are there")):
+            file.write_text(text)
+            self.assertIn(told, run(COMMAND, file, status=1, seconds=20).stderr)
+        file.write_text("1\nLattice=\"3 0 0 0 3 0 0 0 3\"\nC7x 0 0 0\n")
+        self.assertIn(b"'C7x' is no element and no column of it", run(COMMAND, file, status=1).stderr)
 
 
 if __name__ == "__main__":

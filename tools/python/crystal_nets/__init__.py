@@ -12,6 +12,7 @@ The modules that a user calls:
 net        a net, from edges and whatever else there is
 reading    files, atoms of ase and pymatgen, graphs of networkx
 other_forms  POSCAR texts, and the JSON of pymatgen
+kinds      what a file is that has no net
 options    how structures are read
 asking     identify, identify_all, keys
 streams    identify_each: answers as they come

@@ -17,7 +17,9 @@ from typing import TYPE_CHECKING, Any, Unpack
 from .errors import NotANet, PackageMissing, lacking
 from .files import GZIP, checked_path, content_of_file, in_plain_bytes
 from .net import TOO_LONG, Net
-from .other_forms import is_json, is_poscar, is_structure, structure_of_fields, structure_of_json
+from .kinds import is_of_other_kind
+from .other_forms import (is_json, is_poscar, is_poscar_of_folder, is_structure, stem_of, structure_of_fields,
+                          structure_of_json)
 from .options import BLOCK_PACKAGES, STRUCTURE_PACKAGES, StructureOptions, check_names, checked_options
 from .provenance import REFUSED, Note, notes_of
 from .texts.net_text import (BYTE_ORDER_MARK, FIRST_TOKEN, HEADER, MOST_BYTES, OPENERS, OTHER_TEXTS, Chunk, chunks_of,
@@ -31,6 +33,7 @@ if TYPE_CHECKING:
     from .structures.atoms.crystal import Crystal
 
 CIF = re.compile(rb"(?im)^[ \t]*(?:data_|_cell_|_atom_site_)")
+NETS = re.compile(rb"(?im)^[ \t]*(?:(?:PERIODIC_GRAPH|CRYSTAL|NET|TILING)[ \t\r]*$|key[ \t]+\d)")
 CIF_SUFFIXES = (".cif", ".mcif", ".mmcif")
 OTHER_SUFFIXES = (".vasp", ".poscar", ".contcar", ".xyz", ".extxyz")  # structures that ase reads
 SUFFIXES = (*CIF_SUFFIXES, *OTHER_SUFFIXES, ".cgd", ".arc")  # of the files of a folder
@@ -124,16 +127,18 @@ def nets_of_file(content: bytes, file: str, options: Mapping[str, object]) -> li
 
 def is_known(file: str) -> bool:
     """Whether a file of this name is read among those of a folder, packed by gzip or not."""
-    return _suffix_of(file) in SUFFIXES
+    return _suffix_of(file) in SUFFIXES or is_poscar_of_folder(PurePath(file).name.removesuffix(".gz"))
 
 
 def holds_structure(content: bytes, file: str) -> bool:
     """Whether it is a structure: by the ending of the name, and where there is none of those by what stands in the
-    text."""
+    text. One of a kind that is not read is one, too, by its name: what reads structures tells of it."""
     suffix = _suffix_of(file)
     if suffix in SUFFIXES:
         return suffix in (*CIF_SUFFIXES, *OTHER_SUFFIXES)
-    return is_poscar(file, content) or CIF.search(content) is not None
+    if is_poscar(file, content) or CIF.search(content) is not None:
+        return True
+    return is_of_other_kind(file) and NETS.search(content) is None
 
 
 def _suffix_of(file: str) -> str:
@@ -298,7 +303,7 @@ def nets_of_cif(source: str | bytes | os.PathLike[str], options: Mapping[str, ob
         from .structures.conversion import Conversion, Source, convert_structure
         from .structures.reading.formats import structures_of
         from .refusal import Refused
-    stem = Path(file).stem if file else "structure"
+    stem = stem_of(file) if file else "structure"
     try:
         structures = structures_of(content, file, stem)
     except Refused as reason:

@@ -14,7 +14,6 @@ archives     the archives by their files, each with its names or the reason why 
 questions    what is asked: the nets of a file, the card of a net, a pair of nets, a crystal
 files        from a file to its nets
 zips         the files of a ZIP archive
-kinds        what a file is that has no net
 rows         what the table tells of nets
 cards        what is told and drawn of a net
 listed       what databases list of a net, when it is asked for

@@ -12,7 +12,7 @@ from ..net import Net
 from ..other_forms import is_json
 from ..reading import holds_structure, net_of_chunk, read, unpacked
 from ..texts.net_text import chunk_at, chunks_of
-from .kinds import kind_of
+from ..kinds import kind_of
 
 MOST_NETS = 20_000  # of a file; net_table takes more
 MOST_BYTES = 64 * 2**20  # of a file, unpacked
@@ -59,12 +59,11 @@ def nets_of_file(name: str, content: bytes, options: dict[str, Any]) -> Found:
     content, name = unpacked(content, name, MOST_BYTES)
     if not content.strip():
         raise NotANet("the file is empty")
-    kind = kind_of(content)
-    if kind and not is_json(content):
-        raise NotANet(f"it is {kind}")
     if is_json(content) or holds_structure(content, name):
         nets = read(content, name=name, **fitting(options))
         found = Found([*nets[:MOST_NETS]], len(nets), is_structure=True)
+    elif kind := kind_of(content, name):
+        raise NotANet(f"it is {kind}")
     else:
         found = _of_blocks(content)
     if not found.total:

@@ -13,6 +13,7 @@ from collections import deque
 from collections.abc import Iterable, Iterator
 from concurrent.futures import Future, ProcessPoolExecutor
 from concurrent.futures.process import BrokenProcessPool
+from functools import partial
 from itertools import islice
 
 from ..errors import NotAnOption
@@ -126,7 +127,7 @@ def main() -> int:
     signal.signal(signal.SIGINT, signal.SIG_DFL)
     gc.set_threshold(OBJECTS_BETWEEN)
     asked = words()
-    sources = sources_of(list(files_of(asked.files)))
+    sources = sources_of(list(files_of(asked.files, partial(print, file=sys.stderr))))
     try:
         notes = telling_text(asked.notes) if asked.notes else None
     except OSError as error:

@@ -4,15 +4,16 @@ from __future__ import annotations
 
 import os
 from collections import Counter
-from collections.abc import Iterable, Iterator
+from collections.abc import Callable, Iterable, Iterator
 from pathlib import Path, PurePath
 from typing import NamedTuple
 
 from ..files import walked
+from ..kinds import is_passed_over, told_passed_over
+from ..other_forms import is_poscar_of_folder, stem_of
 from .conversion import Source
 
 SUFFIXES = (".cif", ".mcif", ".mmcif", ".vasp", ".poscar", ".contcar", ".xyz", ".extxyz")  # of the files of a folder
-WITHOUT_SUFFIX = ("poscar", "contcar")
 
 
 class Given(NamedTuple):
@@ -22,23 +23,27 @@ class Given(NamedTuple):
     is_found: bool
 
 
-def files_of(arguments: Iterable[str]) -> Iterator[Given]:
+def files_of(arguments: Iterable[str], tell: Callable[[str], object] = lambda line: None) -> Iterator[Given]:
     """The files themselves, and of folders all structure files in them and below, by their names. A folder that cannot
-    be read stands among them, since it is told as a file that cannot be read."""
+    be read stands among them, since it is told as a file that cannot be read. Structures of other kinds are told."""
     for argument in arguments:
         if argument == "-" or not os.path.isdir(argument):
             yield Given(argument, False)
             continue
         away: list[OSError] = []
+        passed: list[str] = []
         for folder, names in walked(argument, away.append):
             yield from (Given(os.path.join(folder, name), True) for name in names if is_structure(name))
+            passed += [name for name in names if is_passed_over(name, SUFFIXES)]
+        if passed:
+            tell(f"{argument}: {told_passed_over(passed)}")
         yield from (Given(os.fsdecode(fault.filename), True) for fault in away)
 
 
 def is_structure(name: str) -> bool:
     """Whether a file of this name is one of a structure."""
     plain = name.lower().removesuffix(".gz")
-    return plain.endswith(SUFFIXES) or plain in WITHOUT_SUFFIX
+    return plain.endswith(SUFFIXES) or is_poscar_of_folder(plain)
 
 
 def sources_of(files: list[Given]) -> list[Source]:
@@ -50,9 +55,9 @@ def sources_of(files: list[Given]) -> list[Source]:
 
 
 def _stem(path: Path) -> Path:
-    """The path without the ending of its name, and without that of gzip before."""
+    """The path without the ending of its name, and without that of gzip before. That of POSCAR.2 stays."""
     plain = path.with_suffix("") if path.suffix.lower() == ".gz" else path
-    return plain.with_suffix("")
+    return plain.with_name(stem_of(plain.name)) if plain.name else plain
 
 
 def _depths(stems: list[Path]) -> list[int]:

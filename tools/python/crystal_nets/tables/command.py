@@ -157,7 +157,7 @@ def planned(asked: argparse.Namespace, folder: Path, work: Path) -> Plan:
     if len(asked.paths) == 1:
         raise Failed(f"nothing is planned in {folder}; give the source before it")
     source = asked.paths[0]
-    files = files_of(source)
+    files = files_of(source, tell=partial(print, file=sys.stderr))
     if not files:
         raise Failed(f"{source} has no files .cif, .mcif, .cgd or .arc")
     state = state_of(files)

@@ -6,7 +6,7 @@ import hashlib
 import json
 import os
 import stat
-from collections.abc import Iterator
+from collections.abc import Callable, Iterator
 from dataclasses import dataclass, field
 from functools import cached_property
 from pathlib import Path
@@ -14,7 +14,8 @@ from typing import Any, NamedTuple, NoReturn
 
 from ..errors import in_words
 from ..files import GZIP, encoding_of, walked
-from ..reading import holds_structure, is_known
+from ..kinds import is_passed_over, told_passed_over
+from ..reading import SUFFIXES, holds_structure, is_known
 from ..texts.net_text import chunks_of
 
 FORM = "net_table 5"
@@ -150,16 +151,19 @@ def sum_of(content: bytes) -> str:
     return hashlib.sha256(content).hexdigest()[:16]
 
 
-def files_of(source: Path, at: str = "") -> list[Path]:
+def files_of(source: Path, at: str = "", tell: Callable[[str], object] = lambda line: None) -> list[Path]:
     """The file, or all files of a folder and below whose endings are known, by their names. The source is given from
-    a folder, and so are the files. OSError where a folder cannot be read."""
+    a folder, and so are the files. Structures of other kinds are told. OSError where a folder cannot be read."""
     top = Path(at, source)
     if not top.is_dir():
         return [source]
-    found = []
+    found, passed = [], list[str]()
     for folder, names in walked(top, _raise):
         inner = source / Path(folder).relative_to(top)
         found += [inner / name for name in names if is_known(name)]
+        passed += [name for name in names if is_passed_over(name, SUFFIXES)]
+    if passed:
+        tell(f"{source}: {told_passed_over(passed)}")
     return found
 
 

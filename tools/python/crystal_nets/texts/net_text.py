@@ -12,6 +12,7 @@ from dataclasses import dataclass, field
 from io import BytesIO
 
 from ..files import told_encoding
+from ..kinds import kind_of
 
 MOST_BLOCKS = 4_096
 MOST_BYTES = 16_777_216
@@ -100,7 +101,11 @@ def chunk_at(line: int, text: bytes) -> Chunk:
 
 
 def told_of_stray(line: int, count: int, opening: bytes) -> str:
-    """The reason why a block gives no net whose first line, of so many, opens none that is read."""
+    """The reason why a block gives no net whose first line, of so many, opens none that is read. The first line of a file
+    may tell what that is."""
+    kind = kind_of(opening) if line == 1 else ""
+    if kind and first_word(opening) not in OTHER_TEXTS:
+        return f"it is {kind}"
     words = opening.strip()[:40].decode(errors="replace")
     return f"a block {words!r} is not read" + f", up to line {line + count - 1}" * (count > 1)
 

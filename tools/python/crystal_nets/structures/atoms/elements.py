@@ -10,6 +10,7 @@ import gemmi
 from ...refusal import Refused
 
 ANION_FORMERS = frozenset("H C N O F P S Cl As Se Br Te I At".split())
+LAST = 99  # the number of einsteinium: the elements behind it have no crystals, and OG1, CN1 and NO1 are labels
 WATER = re.compile(r"wat|ow\d*$", re.IGNORECASE)
 
 
@@ -38,9 +39,10 @@ def element_of(symbol: str, label: str, formula: dict[str, float]) -> str:
     """The element by the type symbol, else by the label."""
     if is_water(symbol) or is_water(label) or _is_w_of_water(label, formula):
         return "O"
-    found = _reading(symbol, formula) or _reading(label, formula)
+    found = _reading(symbol, formula, is_symbol=True) or _reading(label, formula)
     if not found:
-        raise Refused(f"the element of atom {label!r} is not known")
+        raise Refused(f"the element of atom {label!r} is not known" if label else
+                      "an atom has neither a label nor a type symbol")
     return "H" if found == "D" else found
 
 
@@ -49,11 +51,12 @@ def _is_w_of_water(label: str, formula: dict[str, float]) -> bool:
     return re.fullmatch(r"W\d+", label) is not None and bool(formula) and "W" not in formula
 
 
-def _reading(text: str, formula: dict[str, float]) -> str:
-    """The element that the letters at the start are. Of two readings, as CO1 for cobalt or
-    carbon, the one that the formula has, and else the longer one."""
+def _reading(text: str, formula: dict[str, float], is_symbol: bool = False) -> str:
+    """The element that the letters at the start are. Of two readings, as CO1 for cobalt or carbon, the one that the
+    formula has, and else the longer one. Elements without crystals are read in symbols of their spelling alone."""
     found = re.match(r"[A-Za-z]*", text.strip())
     letters = found.group() if found else ""
     readings = [e for e in (letters[:2].capitalize(), letters[:1].upper())
-                if e and gemmi.Element(e).atomic_number > 0]
+                if e and gemmi.Element(e).atomic_number > 0
+                and (gemmi.Element(e).atomic_number <= LAST or (is_symbol and letters.startswith(e)))]
     return next((e for e in readings if e in formula), readings[0] if readings else "")

@@ -3,7 +3,8 @@
 The radii are those of single, double and triple bonds: P. Pyykkö and M. Atsumi, Chem. Eur. J. 15 (2009) 186 and 12770;
 P. Pyykkö, S. Riedel and M. Patzschke, Chem. Eur. J. 11 (2005) 3511. They are fitted to the shortest bonds of each kind
 that are known, as C-N 1.14 in cyanides, V-O 1.59 in vanadyls. Where an atom has others beside it at such a length, it
-has no triple bond: so an oxygen between two metals is not as near as in a vanadyl."""
+has no triple bond: so an oxygen between two metals is not as near as in a vanadyl. Nor have two nonmetals of the third
+row or below one: so As-S is not as near as C-S."""
 
 from __future__ import annotations
 
@@ -130,8 +131,9 @@ def single_bond(one: str, other: str) -> float:
 
 def shortest_of_nonmetals(one: str, other: str, beside_one: int = 0, beside_other: int = 0) -> float:
     """The shortest bond of two nonmetals that have so many other neighbours, in angstrom."""
-    return OF_NONMETALS * (_shortest_radius(one, _highest_order(one, beside_one))
-                           + _shortest_radius(other, _highest_order(other, beside_other)))
+    is_heavy = one not in SECOND_ROW and other not in SECOND_ROW
+    return OF_NONMETALS * (_shortest_radius(one, _highest_order(one, beside_one, is_heavy))
+                           + _shortest_radius(other, _highest_order(other, beside_other, is_heavy)))
 
 
 def shortest_in_shell(one: str, other: str) -> float:
@@ -145,5 +147,5 @@ def shortest_of_metal(metal: str, nonmetal: str, beside: int = 0) -> float:
     return OF_METALS * (_shortest_radius(metal, order) + _shortest_radius(nonmetal, order))
 
 
-def _highest_order(element: str, beside: int) -> int:
-    return 2 if element in SECOND_ROW and beside > MOST_OF_TRIPLE else 3
+def _highest_order(element: str, beside: int, is_heavy: bool) -> int:
+    return 2 if is_heavy or (element in SECOND_ROW and beside > MOST_OF_TRIPLE) else 3

@@ -33,8 +33,9 @@ def differences(crystal: Crystal, by_rules: set[Edge], by_file: set[Edge]) -> li
 
 
 def _told(crystal: Crystal, edges: Iterable[Edge], what: str) -> list[str]:
-    pairs = {"-".join(sorted(_labels(crystal, one.u, one.v))) for one in edges
-             if "H" not in (crystal.atoms[one.u].site.element, crystal.atoms[one.v].site.element)}
+    ends = [(crystal.atoms[one.u].site, crystal.atoms[one.v].site) for one in edges]
+    pairs = {"-".join(sorted(site.label for site in sites)) for sites in ends
+             if not any(site.element == "H" for site in sites)}
     return [f"{pair} {what}" for pair in sorted(pairs)]
 
 

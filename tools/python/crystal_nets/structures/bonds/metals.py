@@ -36,7 +36,7 @@ class MetalPairs:
 def metal_pairs(crystal: Crystal, polar: list[Contact]) -> MetalPairs:
     """Judges the contacts of two metals by their bonds to anions, which are given from both ends."""
     elements = [atom.site.element for atom in crystal.atoms]
-    radii = np.array([max(radius(e), single_bond(e, e) / 2) if _may_be_joined(e) else -9.0 for e in elements])
+    radii = np.array([max(radius(e), single_bond(e, e) / 2) if may_be_joined(e) else -9.0 for e in elements])
     if np.count_nonzero(radii > 0) < 1:
         return MetalPairs([], set())
     anions = _anions_of_metals(polar, elements)
@@ -59,15 +59,16 @@ def is_metal_rich(crystal: Crystal) -> bool:
     others = len(elements) - len(metals)
     if not others or len(metals) < METAL_RICH * others or "H" in elements:
         return False
-    radii = np.array([radius(e) if _may_be_joined(e) or e == "Si" else -9.0 for e in elements])
+    radii = np.array([radius(e) if may_be_joined(e) or e == "Si" else -9.0 for e in elements])
     touching = {c.first for c in crystal.contacts(
         2 * TOUCHING * radii.max(), lambda u, v, length: length <= TOUCHING * (radii[u] + radii[v]))
                 } if radii.max() > 0 else set()
     return touching >= metals
 
 
-def _may_be_joined(element: str) -> bool:
-    """Whether a metal is joined to others beside anions: those of groups 1 and 2 and the lanthanides are not."""
+def may_be_joined(element: str) -> bool:
+    """Whether a metal is joined to others beside anions, and to lone pairs beside oxygens: those of groups 1 and 2, the
+    lanthanides and the actinides are not."""
     number = gemmi.Element(element).atomic_number
     return is_metal(element) and element not in IONIC_GROUPS and not 57 <= number <= 71 and number < 89
 

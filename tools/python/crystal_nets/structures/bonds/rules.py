@@ -13,7 +13,7 @@ from ..atoms.elements import is_metal, makes_anions
 from .hydrogen import hydrogen_bridges
 from .ices import hydrate_bonds, ice_bonds, is_ice
 from .lengths import SHARE, shortest_of_metal, shortest_of_nonmetals
-from .metals import is_metal_rich, metal_pairs
+from .metals import is_metal_rich, may_be_joined, metal_pairs
 from .shells import COVALENT, ROUNDING, shell_bonds
 from ...graph import Edge
 from ...lattice import add
@@ -30,6 +30,10 @@ CLOSE = 0.05      # from one of these bounds, or less: told as a doubt
 # is 2.14 in nitrates, and 2.16 in carbon tetrafluoride. Those that are nearer are told as a doubt.
 LEAST_APART = 2.10
 NEVER_NEAR = frozenset(("O", "F"))
+MOST_NEIGHBOURS = {"C": 4, "N": 4}  # nonmetals other than hydrogen and boron
+# Middles of anions with a lone pair, and how many neighbours they have at most beside it: nitro groups are joined by N,
+# sulfites, sulfinates and phosphites by S and P.
+WITH_LONE_PAIR = {"N": 2, "P": 3, "As": 3, "S": 3, "Se": 3, "Te": 3}
 # Of two atoms of one nonmetal that each have two bonds to other elements, the lengths in angstrom
 # that their bonds have: superoxide and peroxide, disulphide, diphosphide and so on (A. F. Wells,
 # Structural Inorganic Chemistry, 1984). B and C make bonds of all lengths, and are not listed.
@@ -55,7 +59,20 @@ def find_bonds(crystal: Crystal, hydrogen_bonds: bool, lengths: Lengths, doubts:
     else:
         bonds = radius_bonds(crystal, doubts)
         bonds |= hydrogen_bridges(crystal) if hydrogen_bonds else hydrate_bonds(crystal, bonds, doubts)
-    return with_lengths(crystal, bonds, lengths) if lengths else bonds
+    bonds = with_lengths(crystal, bonds, lengths) if lengths else bonds
+    doubts += _too_many(crystal, bonds)
+    return bonds
+
+
+def _too_many(crystal: Crystal, bonds: set[Edge]) -> list[str]:
+    """The doubts about full carbons and nitrogens with more neighbours than they have in any molecule, as where a group
+    has another origin. Hydrogens, boron of carboranes and metals do not count."""
+    elements = [atom.site.element if atom.occupancy >= FULL else "" for atom in crystal.atoms]
+    counts = Counter(one for bond in bonds for one, other in ((bond.u, bond.v), (bond.v, bond.u))
+                     if elements[one] in MOST_NEIGHBOURS and elements[other] not in ("", "H", "B")
+                     and not is_metal(elements[other]))
+    return sorted({f"{elements[v]} with {count} neighbours, more than it can have" for v, count in counts.items()
+                   if count > MOST_NEIGHBOURS[elements[v]]})
 
 
 def _has_shells(crystal: Crystal) -> bool:
@@ -85,8 +102,9 @@ def radius_bonds(crystal: Crystal, doubts: list[str]) -> set[Edge]:
     covalent = [c for c, more in excess.items()
                 if more <= COVALENT and _are_covalent(elements[c.first], elements[c.second])]
     closed = _anion_centres(covalent, elements) | _bound_hydrogens(covalent, elements)
+    by_pair = _by_lone_pair(covalent, elements, excess)
     polar = [c for c in excess if is_metal(elements[c.first]) != is_metal(elements[c.second])
-             and c.first not in closed and c.second not in closed]
+             and (not {c.first, c.second} & closed or c.edge() in by_pair)]
     polar = _without_beside(polar, covalent, elements, excess, doubts)
     shortest = _shortest(polar, elements)
     ratio = {c: c.length / shortest[c.first, elements[c.second]] for c in polar}
@@ -220,6 +238,21 @@ def _anion_centres(covalent: list[Contact], elements: list[str]) -> set[int]:
     count = Counter(c.first for c in covalent
                     if elements[c.second] in ("O", "F") and elements[c.first] not in ("O", "F"))
     return {atom for atom, number in count.items() if number > 1}
+
+
+def _by_lone_pair(covalent: list[Contact], elements: list[str], excess: dict[Contact, float]) -> set[Edge]:
+    """The bonds of a metal to the middle of an anion, at a lone pair that it has: the metal is nearer to it than to all
+    its neighbours, as it is not to a nitrite that holds it by two oxygens."""
+    around: dict[int, list[Contact]] = defaultdict(list)
+    for c in covalent:
+        around[c.first].append(c)
+
+    def has_pair(c: Contact) -> bool:
+        near = around[c.first]
+        return (0 < len(near) <= WITH_LONE_PAIR.get(elements[c.first], 0) and may_be_joined(elements[c.second])
+                and excess[c] <= COVALENT and all(np.linalg.norm(c.step - other.step) > c.length for other in near))
+
+    return {c.edge() for c in excess if has_pair(c)}
 
 
 def _bound_hydrogens(covalent: list[Contact], elements: list[str]) -> set[int]:

@@ -12,6 +12,7 @@ SHELL_GAP = 1.13    # times the length before: the step that ends a shell
 SHELL_CLOSE = 0.02  # from that step, or less: told as a doubt
 COVALENT = 0.30     # angstrom above the sum of the radii: the longest bond of two nonmetals
 LONG = 0.50         # angstrom above the radii: neighbours in a nonmetal that are farther are told as a doubt
+FAR = 1.3           # times the sum of the radii: a metal whose nearest is farther is told; it is 1.20 in lead
 ROUNDING = 1e-6     # angstrom
 SOFT = frozenset("Li Na K Rb Cs Fr Ca Sr Ba Ra".split())
 
@@ -29,7 +30,7 @@ def shell_bonds(crystal: Crystal, doubts: list[str], among: frozenset[str] = fro
         close |= {f"{end} neighbours up to {lengths[end - 1]:.2f}, {other} up to {lengths[other - 1]:.2f}"
                   for other in {first_gap(lengths, -SHELL_CLOSE), first_gap(lengths, SHELL_CLOSE)} - {end}
                   if other > len(taken) or len(taken) == end}
-        close |= _too_long(elements, near[end - 1]) | _too_short(elements, near[0], end)
+        close |= _too_long(elements, near[0], near[end - 1]) | _too_short(elements, near[0], end)
     doubts += sorted(close)
     return bonds
 
@@ -39,12 +40,17 @@ def _is_covalent(elements: list[str], contact: Contact) -> bool:
     return not is_metal(one) and not is_metal(other) and contact.length <= radius(one) + radius(other) + COVALENT
 
 
-def _too_long(elements: list[str], contact: Contact) -> set[str]:
-    """The doubt that two atoms of a nonmetal are farther from each other than its bonds are long."""
-    one, other = elements[contact.first], elements[contact.second]
-    is_long = (not is_metal(one) and not is_metal(other)
-               and contact.length > radius(one) + radius(other) + LONG)
-    return {f"{one}-{other} {contact.length:.2f} taken, longer than a bond"} if is_long else set()
+def _too_long(elements: list[str], nearest: Contact, farthest: Contact) -> set[str]:
+    """The doubts that two nonmetals of a shell are farther from each other than bonds are long, and that a metal touches
+    no atom: then others are not listed, as where a file has the metals of a compound alone."""
+    found = set()
+    for contact in (nearest, farthest):
+        one, other = sorted((elements[contact.first], elements[contact.second]))
+        radii = radius(one) + radius(other)
+        is_metallic = is_metal(one) or is_metal(other)
+        is_long = contact is nearest and contact.length > FAR * radii if is_metallic else contact.length > radii + LONG
+        found |= {f"{one}-{other} {contact.length:.2f} taken, longer than a bond"} if is_long else set()
+    return found
 
 
 def _too_short(elements: list[str], contact: Contact, neighbours: int) -> set[str]:

@@ -8,7 +8,7 @@ from dataclasses import dataclass, field
 
 import gemmi
 
-from ...provenance import OTHER, Note
+from ...provenance import DROPPED, OTHER, Note
 from ...refusal import Refused
 
 # A tag of which a second value could be meant.
@@ -47,11 +47,13 @@ def blocks_of(content: bytes, stem: str) -> list[Block]:
     except (ValueError, RuntimeError) as error:
         version = " (CIF 2.0)" if text.lstrip().startswith("#\\#CIF_2.0") else ""
         raise Refused(f"no CIF{version}: {str(error).replace('string:', 'line ')}") from error
-    blocks = [block for block in document
-              if _has_tag(block, "_atom_site_fract_x") or _has_tag(block, "_atom_site_Cartn_x")]
+    blocks = [block for block in document if _has_places(block)]
     if not blocks:
         raise Refused("no atoms with fractional coordinates")
-    return _named(blocks, stem, text)
+    named = _named(blocks, stem, text)
+    named[0].notes += [Note(DROPPED, f"the block {block.name} has atoms without coordinates, and is passed over")
+                       for block in document if _has_tag(block, "_atom_site_label") and not _has_places(block)]
+    return named
 
 
 def text_of_file(content: bytes) -> str:
@@ -74,6 +76,10 @@ def is_magnetic(block: gemmi.cif.Block) -> bool:
     """Whether a block has a tag that only magnetic structures have."""
     tags = (tag for item in block for tag in ([item.pair[0]] if item.pair else item.loop.tags if item.loop else []))
     return any(map(MAGNETIC.match, tags))
+
+
+def _has_places(block: gemmi.cif.Block) -> bool:
+    return _has_tag(block, "_atom_site_fract_x") or _has_tag(block, "_atom_site_Cartn_x")
 
 
 def _has_tag(block: gemmi.cif.Block, tag: str) -> bool:

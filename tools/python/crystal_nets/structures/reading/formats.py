@@ -13,7 +13,8 @@ from pathlib import PurePath
 from typing import Any
 
 from ...errors import PackageMissing, lacking
-from ...other_forms import is_poscar
+from ...kinds import kind_of
+from ...other_forms import is_json, is_poscar
 from ...provenance import DROPPED, Note
 from ...reading import CIF_SUFFIXES
 from ...refusal import Refused
@@ -24,6 +25,7 @@ from .poscar import as_ase_reads
 from .structure import read_crystal
 
 XYZ_SUFFIXES = (".xyz", ".extxyz")
+OF_PYMATGEN = "the JSON of a structure, which net_table and the module crystal_nets read"
 
 
 @dataclass(frozen=True)
@@ -42,8 +44,12 @@ def structures_of(content: bytes, file: str, stem: str) -> list[Structure]:
     if format_of_ase:
         notes: list[Note] = []
         return [Structure(stem, "", notes, partial(_crystal_by_ase, content, format_of_ase, stem, notes))]
-    return [Structure(block.name, block.cif.name, block.notes, partial(read_crystal, block))
-            for block in blocks_of(content, stem)]
+    try:
+        blocks = blocks_of(content, stem)
+    except Refused as reason:
+        kind = OF_PYMATGEN if is_json(content) else kind_of(content, PurePath(file).name)
+        raise Refused(f"it is {kind}" if kind else str(reason)) from reason
+    return [Structure(block.name, block.cif.name, block.notes, partial(read_crystal, block)) for block in blocks]
 
 
 def _format_of(file: str, content: bytes) -> str:
@@ -60,7 +66,10 @@ def _crystal_by_ase(content: bytes, format_of_ase: str, name: str, notes: list[N
         advice = lacking(missing, "apt-get install python3-ase")
         raise PackageMissing(f"a file {format_of_ase} is read by ase: {advice}") from None
     text = text_of_file(content)
-    text = as_ase_reads(text, notes) if format_of_ase == "vasp" else text
+    if format_of_ase == "vasp":
+        text = as_ase_reads(text, notes)
+    else:
+        _check_rows(text)
     try:
         frames: list[Any] = read(StringIO(text), index=":", format=format_of_ase)
         atoms = frames[-1]
@@ -69,7 +78,7 @@ def _crystal_by_ase(content: bytes, format_of_ase: str, name: str, notes: list[N
     except MemoryError:
         raise
     except Exception as fault:  # of ase, in many kinds
-        raise Refused(f"no {format_of_ase} file that ase reads: {type(fault).__name__} {fault}") from None
+        raise Refused(f"no {format_of_ase} file that ase reads: {_told_fault(fault)}") from None
     if len(frames) > 1:
         notes.append(Note(DROPPED, f"the last of {len(frames)} structures is read"))
     if not any(atoms.pbc):
@@ -77,3 +86,29 @@ def _crystal_by_ase(content: bytes, format_of_ase: str, name: str, notes: list[N
     crystal = crystal_of_atoms(name, cell, [{symbol: 1.0} for symbol in symbols], places)
     crystal.notes += notes
     return crystal
+
+
+def _check_rows(text: str) -> None:
+    """Raises Refused where an XYZ file counts more atoms than it has rows: ase would look for all of them, however many."""
+    lines = text.split("\n")
+    at = 0
+    while at < len(lines):
+        try:
+            count = int(lines[at])
+        except ValueError:
+            return  # ase tells of it
+        rows = sum(bool(line.strip()) for line in lines[at + 2:at + 2 + max(0, count)])
+        if count > rows:
+            raise Refused(f"no XYZ file: {count} atoms are counted in line {at + 1}, and {rows} rows are there")
+        at += max(0, count) + 2
+        while at < len(lines) and lines[at].lstrip().startswith("VEC"):
+            at += 1
+
+
+def _told_fault(fault: Exception) -> str:
+    """What went wrong in ase, in words; of the kinds that tell nothing by themselves, what they come from."""
+    if isinstance(fault, KeyError):
+        return f"{fault} is no element and no column of it"
+    if isinstance(fault, (IndexError, StopIteration)) or "StopIteration" in str(fault):
+        return "it is cut, or has another form"
+    return f"{type(fault).__name__} {fault}"

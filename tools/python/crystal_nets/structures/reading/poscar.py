@@ -7,12 +7,16 @@ import re
 
 import numpy as np
 
-from ...provenance import DOUBT, Note
+from ...other_forms import NUMBER
+from ...provenance import DOUBT, DROPPED, Note
 from ...refusal import Refused
 
 FORTRAN = re.compile(r"(?<=[\d.])[dD](?=[-+]?\d)")  # of the exponent of a number of double precision
 SYMBOL = re.compile(r"[A-Z][a-z]?(?![a-z])")
 LATTICE = slice(2, 5)  # the lines of the cell
+CONFIGURATION = re.compile(r"(?i)[ \t]*(?:direct|cartesian)[ \t]+configuration[ \t]*=")
+FURTHER = re.compile(rf"(?m)^[ \t]*{NUMBER}[ \t]*\n(?:[ \t]*{NUMBER}(?:[ \t]+{NUMBER}){{2}}[ \t]*\n){{3}}"
+                     r"[ \t]*[A-Z][a-z]?\b[^\n]*\n[ \t]*\d+(?:[ \t]+\d+)*[ \t]*$")
 MODE = re.compile(r"[ \t]*([sScCkK])")
 
 
@@ -31,7 +35,17 @@ def as_ase_reads(text: str, notes: list[Note]) -> str:
     else:
         told = f"no line has the elements, and those of the first are taken: {lines[0].strip()[:60]}"
         notes.append(Note(DOUBT, told))
+    others = _others_behind(lines[counts_at + 1 + sum(counts):])
+    if others:
+        notes.append(Note(DROPPED, f"the first of {1 + others} structures is read"))
     return "\n".join([*lines[:counts_at + 1], *_atoms(lines[counts_at + 1:], sum(counts))])
+
+
+def _others_behind(lines: list[str]) -> int:
+    """How many structures follow the first: the configurations of an XDATCAR, or further texts with a cell, elements and
+    numbers of atoms, which what a CONTCAR has of velocities is not."""
+    configurations = sum(CONFIGURATION.match(line) is not None for line in lines)
+    return configurations or len(FURTHER.findall("\n".join(lines)))
 
 
 def _numbers(text: str) -> list[float]:

@@ -3,6 +3,7 @@
 from __future__ import annotations
 
 from collections.abc import Callable
+from contextlib import suppress
 
 import gemmi
 import numpy as np
@@ -21,6 +22,7 @@ from .symmetry import Symmetry, both_origins, doubt_of_symmetry, named_symmetry,
 
 LONGEST_EDGE = 1000.0  # angstrom, of a unit cell
 MOST_ATOMS = 20_000    # of a primitive cell
+OTHER_VOLUME = 0.01    # of the volume: by more the one that is stated is another
 TURN = 10.0            # degrees: a cell that is turned so much strains the operations that keep its angle
 CELL_TAGS = ("length_a", "length_b", "length_c", "angle_alpha", "angle_beta", "angle_gamma")
 ABSENT = {"angle_alpha": 90.0, "angle_beta": 90.0, "angle_gamma": 90.0}  # as the dictionary has it
@@ -58,6 +60,7 @@ def read_crystal(block: Block) -> Crystal:
         crystal.noted_doubt(crystal.shortage)
     crystal.noted_doubt(doubt_of_symmetry(block.cif, cell, symmetry) or _doubt_of_setting(symmetry, cell))
     crystal.noted_doubt(_doubt_of_angles(block.cif, cell, symmetry))
+    crystal.noted_doubt(_doubt_of_volume(block.cif, cell))
     return crystal.noted_doubt(expected.doubt_of(_in_cell(crystal, cell)))
 
 
@@ -111,6 +114,16 @@ def _doubt_of_angles(block: gemmi.cif.Block, cell: gemmi.UnitCell, symmetry: Sym
               for tag in absent]
     is_open = [tag[6:] for tag, other in zip(absent, turned) if keeps_metric(symmetry, other)]
     return f"no value of {' and '.join(is_open)} is given: 90 degrees are taken" if is_open else ""
+
+
+def _doubt_of_volume(block: gemmi.cif.Block, cell: gemmi.UnitCell) -> str:
+    """What is to be told where the volume that is stated is not that of the cell: one of its lengths or angles is wrong,
+    or not in angstrom or degrees."""
+    with suppress(Refused):
+        stated = number_of(text_of(block, ("_cell_volume",)), "_cell_volume")
+        if stated > 0 and abs(stated - cell.volume) > OTHER_VOLUME * cell.volume:
+            return f"the cell has a volume of {cell.volume:.1f}, and {stated:.1f} is stated"
+    return ""
 
 
 def _atoms_by_volume(crystal: Crystal) -> float:
