@@ -1,6 +1,7 @@
 """Installing: that what is installed works where it was put, alone, and as a package."""
 
 import os
+import random
 import re
 import shlex
 import shutil
@@ -66,14 +67,77 @@ class Installed(FolderTest):
             more = self.told(f"net_tool help {command}", 0)[0].decode()
             self.assertRegex(more, rf"^{command} .*\n(.*\n)?Status 0")
             self.assertEqual(self.told(f"net_tool {command} --help", 0)[0].decode(), more)
+            for words in (f"{command} x --help", f"{command} --archive x -h --name y"):
+                self.assertEqual(self.told(f"net_tool {words}", 0)[0].decode(), more)
         self.assertEqual(self.told("net_tool help", 0)[0].decode(), listed)
         self.assertEqual(self.told("net_tool help keys", 2)[0], b"")
+        self.assertIn("takes one command", self.told("net_tool help check key", 2)[1])
         version = self.told("net_tool --version", 0)[0].decode()
         self.assertIn((TOOLS.parent / "TOOLCHAIN").read_text().strip(), version)
         self.assertRegex(version, r"^net_tool, commit ([0-9a-f]{12}|not known)")
         output, said = self.told("net_tool", 2)
         self.assertIn(b"usage: net_tool COMMAND", output)
-        self.assertIn("net_tool help", said)
+        self.assertEqual(said, "net_tool: 'net_tool help' lists the commands\n")
+
+    def test_words_without_a_form_are_explained(self):
+        (self.folder / "x.cif").touch()
+        for words, reason in (
+                ("identfy x", "there is no command identfy"), (f"{self.folder}/x.cif", "is a file, and a command stands before it"),
+                ("key x -a y", "there is no option -a"), ("check x --archive y", "check takes no --archive"),
+                ("cover x", "cover asks for --cell"), ("cover x --cell -1,0,0,1", "given as --cell=VALUE"),
+                ("cover x --cell=2,2,2", "4 or 9 whole numbers"), ("cover x --cell=1,0,0,-0", "4 or 9 whole numbers"),
+                ("key x y", "one FILE, and y is a second"), ("key -- x --help", "one FILE, and --help is a second"),
+                ("duplicates x", "duplicates does not take x"), ("union x", "union asks for --archive"),
+                ("add x --name a --name=b", "--name is given twice"), ("add x --name=", "the value of --name is empty"),
+                ("add ''", "an argument is empty"), ("add --archive -", "cannot both be standard input"),
+                ("workload", "asks for N"), ("workload 4097", "N is from 1 to 4096"), ("key 'a\\nb' 'c\\nd'", "'c\\nd' is a second")):
+            output, said = self.told(f"net_tool {words}", 2)
+            self.assertTrue(output.startswith(b"usage: "), words)
+            self.assertIn(reason, said, words)
+            self.assertEqual(said.count("\n"), 1, words)
+
+    def test_a_reason_is_told_of_just_those_words_that_have_no_form(self):
+        pieces = ("check", "cover", "add", "duplicates", "x", "-", "", "--", "--cell", "--cell=1,0,0,500", "--cell=1,0,0,501",
+                  "--archive", "--archive=-", "--name=y", "-x")
+        chosen = random.Random(5)
+        script = f'. {self.share}/tools/words.sh; positional_words "$@"; fault_of_words "$@"'
+        refused = 0
+        for _ in range(200):
+            words = [chosen.choice(pieces[:4]), *chosen.choices(pieces, k=chosen.randrange(4))]
+            reason = run("sh", "-c", script, "sh", *words).stdout.decode()
+            is_refused = run(PROGRAM, *words, status=None).returncode == 2
+            self.assertEqual(reason.count("\n"), is_refused, words)
+            refused += is_refused
+        self.assertTrue(80 < refused < 190, refused)
+
+    def test_a_file_that_cannot_be_read_is_named(self):
+        dia = self.share / "examples/dia.cgd"
+        for words, reason in ((f"key {self.folder}/a\\\\nb", "a\\nb' is not there"), (f"key {self.folder}", "is a folder, and a file is read; net_table"),
+                              (f"identify {dia} --archive {self.share}/archives", "archives is a folder, and a file is read; name_nets"),
+                              (f"identify {dia} --archive=absent", "absent is not there")):
+            self.assertIn(reason, self.told(f"net_tool {words}", 3)[1], words)
+
+    def test_what_is_no_archive_is_told(self):
+        examples = self.share / "examples"
+        for file, word in (("dia.cgd", "net_tool add"), ("embedded.cgd", "make_archives"), ("quartz.cif", "is no archive")):
+            output, said = self.told(f"net_tool identify {examples}/dia.cgd --archive {examples}/{file}", 5)
+            self.assertEqual((output, said.count("\n")), (b"archive refused 6 Version line=1\n", 1))
+            self.assertIn(word, said)
+        damaged = self.folder / "damaged.archive"
+        damaged.write_text("net_archive 2\nx\n")
+        self.assertEqual(self.told(f"net_tool duplicates --archive {damaged}", 5)[1], "")
+
+    def test_a_block_without_its_end_is_told(self):
+        nets = self.folder / "x.cgd"
+        block = "PERIODIC_GRAPH\nNAME a\nEDGES\n1 1 0 1\n1 1 1 0\n"
+        for text, told in ((f"{block}END\n{block}", False), (f"# x\n{block}{block}END\n", True), (f"{block}#x\n crystal #x\r\nEND\n", True),
+                           (f"{block}END x\nCRYSTAL\nEND\nNET\nEND\n", False), (f"{block}net x\nEND\n", False)):
+            nets.write_text(text)
+            said = self.told(f"net_tool check {nets}", 1)[1]
+            self.assertEqual("before the END of the one of line" in said, told, text)
+            self.assertLessEqual(said.count("\n"), 1)
+        nets.write_text(f"# x\n{block}{block}END\n")
+        self.assertIn("line 7 opens a block before the END of the one of line 2:", self.told(f"net_tool check {nets}", 1)[1])
 
     def test_each_command_has_help_and_does_nothing_else_then(self):
         need_modules("gemmi", "numpy", "scipy")
@@ -191,6 +255,18 @@ class Installed(FolderTest):
         pages = {path.name.removesuffix(".1.gz") for path in (self.prefix / "share/man/man1").iterdir()}
         self.assertLessEqual({path.name for path in (self.prefix / "bin").iterdir()}, pages)
 
+    def test_the_examples_of_the_page_run(self):
+        """As they are printed, one after the other, in the folder that is installed."""
+        page = (TOP / "docs/net_tool.1").read_text().partition(".Sh EXAMPLES\n")[2].partition(".Sh ")[0]
+        commands = re.findall(r"(?m)^(?:\.Dl )?\$ (.+)$", page)
+        self.assertGreater(len(commands), 5)
+        folder = self.folder / "net_tool"
+        shutil.copytree(self.share, folder, ignore=shutil.ignore_patterns("tools"))
+        for command in commands:
+            output, said = self.told(f"cd {folder} && {command}", 0)
+            self.assertEqual(said, "", command)
+        self.assertIn(b'group "sample A" "mine"', output + self.told(f"cd {folder} && net_tool duplicates --archive more.net", 0)[0])
+
     def test_no_file_of_tests_is_installed(self):
         self.assertEqual([path for path in self.root.rglob("*test*")], [])
 
@@ -258,6 +334,24 @@ class InFront(FolderTest):
         self.assertIn("no key lines, but blocks PERIODIC_GRAPH", said)
         self.assertEqual(run(self.folder / "prefix/bin/net_tool", "union", "--archive=x",
                              TOOLS.parent / "archives/common.archive").stderr, b"")
+
+    def test_a_union_of_a_pipe(self):
+        """What comes by a pipe is told as a file is, and reaches the program whole."""
+        text = b"PERIODIC_GRAPH\nEND\n" * 900_000  # more than the program reads
+        self.run_program('cat >"$0.read"; exit 1', "union", "--archive", "x", status=1)
+        for words in (("union", "--archive", "x"), ("union", "-", "--archive=x")):
+            done = run(self.folder / "prefix/bin/net_tool", *words, stdin=text, status=1)
+            self.assertIn(b"no key lines, but blocks PERIODIC_GRAPH", done.stderr)
+            self.assertEqual((self.folder / "prefix/lib/net_tool/net_tool.read").read_bytes(), text[:16_777_217])
+        self.assertEqual(run(self.folder / "prefix/bin/net_tool", "union", "--archive=x", stdin=b"key 2 1 1 1 0 1 1 0 1\nid x\nend\n",
+                             status=1).stderr, b"")
+
+    def test_a_union_of_a_pipe_leaves_no_file(self):
+        temporary = self.folder / "temporary"
+        temporary.mkdir()
+        self.run_program("cat", "union", "--archive", "x", status=0)
+        run(self.folder / "prefix/bin/net_tool", "union", "--archive", "x", stdin=b"id x\nend\n", TMPDIR=str(temporary))
+        self.assertEqual(list(temporary.iterdir()), [])
 
     def test_a_union_of_keys_in_several_lines(self):
         items = self.folder / "x.arc"
