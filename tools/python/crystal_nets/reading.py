@@ -35,9 +35,10 @@ CIF_SUFFIXES = (".cif", ".mcif", ".mmcif")
 OTHER_SUFFIXES = (".vasp", ".poscar", ".contcar", ".xyz", ".extxyz")  # structures that ase reads
 SUFFIXES = (*CIF_SUFFIXES, *OTHER_SUFFIXES, ".cgd", ".arc")  # of the files of a folder
 ROW = rb'(?:[+-]?\d++|"[^"\n]*+")[ \t]++(?:[+-]?\d++|"[^"\n]*+")[ \t]++[-+\d \t]++'
-HEAD_LINE = rb'PERIODIC_GRAPH|END|(?:NAME|ID)[ \t]++(?:"[^"\n]*+"|[^\s"#]++)|'  # or nothing
+HEAD_LINE = rb'END|(?:NAME|ID)[ \t]++(?:"[^"\n]*+"|[^\s"#]++)|'  # or nothing
 LINE_END = rb'[ \t\r]*+(?:#[^\n]*+)?\n'
 PLAIN_BLOCK = re.compile(  # line by line, from EDGES on with rows. ++ and *+ never take back what they took
+    rb'[ \t]*+(?i:PERIODIC_GRAPH)' + LINE_END +
     rb'(?:[ \t]*+(?i:' + HEAD_LINE + rb')' + LINE_END + rb')*+'
     rb'(?:[ \t]*+(?i:EDGES?|BONDS?)(?:[ \t]++' + ROW + rb')?' + LINE_END +
     rb'(?:[ \t]*+(?:' + ROW + rb'|(?i:(?:EDGES?|BONDS?)(?:[ \t]++' + ROW + rb')?|' + HEAD_LINE + rb'))'

@@ -22,7 +22,6 @@ from ..net import Net
 from ..program import find_program
 from ..provenance import REFUSED, TOLD, Note
 from ..side_by_side import bind_programs, first_of_program
-from ..texts.graph_text import plain
 from ..texts.net_text import MOST_BLOCKS, MOST_BYTES, NetReport, NoReport, nets_of_report
 from ..wide.archive import write_wide_archive
 from .converter import Block, Converter, lines_of
@@ -102,7 +101,7 @@ def read_nets(files: list[str], refused: list[str]) -> list[ListedNet]:
                     collector.push(line, is_rest)
                     bar.step(len(line))
             collector.finish()
-            bar.tell([plain(line) for line in collector.told])
+            bar.tell([line.encode(errors="replace").decode() for line in collector.told])
             nets += collector.nets
     return nets
 

@@ -10,7 +10,7 @@ from ..net import Net
 from ..provenance import DROPPED, REFUSED, Note, notes_of
 from ..refusal import Refused
 from ..texts.graph_text import plain
-from ..texts.net_text import BYTE_ORDER_MARK, ends_stray, first_word, is_stray, opens_block, told_of_stray
+from ..texts.net_text import ALONE, BYTE_ORDER_MARK, ends_stray, first_word, is_stray, opens_block, told_of_stray
 
 from .crystal import Fields, crystal_of
 from .expansion import net_of_crystal_block
@@ -224,8 +224,13 @@ def net_of_block(block: Block, notes: list[str | Note]) -> Net:
 
 
 def _lines_as_read(block: Block, notes: list[str | Note]) -> bytes:
-    """The lines of a PERIODIC_GRAPH, as far as the program reads them."""
+    """The lines of a PERIODIC_GRAPH, as far as the program reads them. A block that begins before its END is told, as the
+    program takes it for a part of this one, and refuses both."""
     _check_end(block, notes)
+    inside = next((k for k, line in enumerate(block.lines) if k and ALONE.fullmatch(line)), 0)
+    if inside:
+        word = first_word(block.lines[inside]).decode()
+        notes.append(Note(DROPPED, f"line {block.line + inside}: {word} begins before the END of this block: both are read as one"))
     return b"".join(rewritten(block.lines, notes, block.line))
 
 

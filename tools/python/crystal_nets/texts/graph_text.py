@@ -20,6 +20,7 @@ END = rb'([+-]?\d+|"[^"\n]*")' + BLANKS  # of an edge: a vertex
 ROW = re.compile(rb"(?:(?:EDGES?|BONDS?)" + BLANKS + rb")?" + END + END + rb"([+-]?\d+(?:" + BLANKS + rb"[+-]?\d+)*)",
                  re.IGNORECASE)
 NO_ROW = re.compile(rb"(?i)(PERIODIC_GRAPH|NAME|ID|EDGES?$|BONDS?$|END)\b")
+ONCE = {b"PERIODIC_GRAPH", b"NAME"}  # in a block
 PLAIN_INTEGER = re.compile(rb"-?(?:0|[1-9]\d*)")
 SMALL_INTEGER = re.compile(r"0|[1-9][0-9]{0,8}")
 
@@ -34,11 +35,12 @@ def text_of_graph(graph: QuotientGraph) -> bytes:
 
 def graph_of_text(block: bytes, name: str = "") -> QuotientGraph:
     """The graph of one block. Vertices are numbered as they appear, as the program numbers them. NotANet where a line is
-    no row."""
+    no row, as where it opens a second block or is a second name."""
     number: dict[bytes, int] = {}
     edges = []
+    heads: set[bytes] = set()
     for count, text in enumerate(block.splitlines(), start=1):
-        row = _row_of(text, count)
+        row = _row_of(text, count, heads)
         if row is not None:
             u, v = (number.setdefault(word, len(number)) for word in row.groups()[:2])
             edges.append(Edge(u, v, _shift_of(row[3], count)))
@@ -46,12 +48,16 @@ def graph_of_text(block: bytes, name: str = "") -> QuotientGraph:
     return QuotientGraph(tuple(map(vertex_of, number)), tuple(edges), dimension, name)
 
 
-def _row_of(line: bytes, number: int) -> re.Match[bytes] | None:
-    """The row of a line; None where it has none."""
+def _row_of(line: bytes, number: int, heads: set[bytes]) -> re.Match[bytes] | None:
+    """The row of a line; None where it has none. The words that stand once in a block, and stood, are noted in `heads`."""
     text = _without_comment(line).strip()
     row = ROW.fullmatch(text)
-    if row is None and text and not NO_ROW.match(text):
-        raise NotANet(f"line {number} of the block is no row: {text[:60].decode(errors='replace')!r}")
+    if row is None and text:
+        head = NO_ROW.match(text)
+        word = b"NAME" if head and head[1].upper() == b"ID" else head[1].upper() if head else b""
+        if head is None or word in heads:
+            raise NotANet(f"line {number} of the block is no row: {text[:60].decode(errors='replace')!r}")
+        heads.update({word} & ONCE)
     return row
 
 
