@@ -477,6 +477,11 @@ sum_of_sources() {
     ) 2>/dev/null
 }
 
+# the version that stands here: that of the next release, or of the one that was made last
+version_of_sources() {
+    sed -n 's/^__version__ = "\([^"]*\)".*/\1/p' "$top/tools/python/crystal_nets/__init__.py"
+}
+
 # The commit of the repository, and whether something was changed since, or the one that a release is of.
 commit_of_sources() {
     if [ -n "${COMMIT_OF_RELEASE:-}" ]; then

@@ -50,7 +50,7 @@ install -D -m 644 -- "$top/tools/install/net_tool.bash" "$to/share/bash-completi
 
 # what `net_tool --version` tells
 {
-    echo "net_tool, commit $(commit_of_sources)"
+    echo "net_tool $(version_of_sources), commit $(commit_of_sources)"
     echo "toolchain: $(cat "$top/TOOLCHAIN")"
     made_of=$(sed -n 1p "$program.sum" 2>/dev/null) || :
     if [ -z "$made_of" ]; then

@@ -329,6 +329,17 @@ class Table(FolderTest):
         (self.result / "work/plan").write_text("{}\n")
         self.assertIn(b"no plan", self.make(status=3).stderr)
 
+    def test_options_of_structures_without_a_structure_are_told(self):
+        words = ("--convention", "pe", "--bond", "Si-O=1.9", "--keep-ions", "--plan")
+        told = run(NET_TABLE, *words, self.source, self.result).stderr.decode()
+        self.assertEqual(told, "net_table: without effect, since the source has no structures: --keep-ions, --convention, --bond\n")
+        self.assertEqual(run(NET_TABLE, "--plan", self.source, self.folder / "plain").stderr, b"")
+        structures = self.folder / "structures"
+        structures.mkdir()
+        for file in (TOP / "examples/quartz.cif", TOP / "examples/dia.cgd"):
+            shutil.copy(file, structures)
+        self.assertEqual(run(NET_TABLE, *words, structures, self.folder / "mixed").stderr, b"")
+
     def test_options_that_a_plan_or_another_word_leaves_without_effect(self):
         run(NET_TABLE, "--plan", "--keys-alone", "--seconds", 900, "--bond", "Si-O=1.9", "--leave-out", "H", self.source, self.result)
         for words, told in ((["--topology"], "made without --topology"), (["--seconds", 9], "its --seconds is 900"),

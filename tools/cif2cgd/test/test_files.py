@@ -105,6 +105,7 @@ class Words(FolderTest):
         for words in ([], ["--bond", "Cs=3", self.file], ["--bond", "Xx-O=3", self.file], ["--nonsense", self.file],
                       ["--leave-out", "CS", self.file], ["--bond", "Cs-Cl=3", "--bond", "Cl-Cs=4", self.file]):
             run(COMMAND, *words, status=2)
+        self.assertIn(b"not allowed with", run(COMMAND, "--clusters", "--convention", "pe", "x.cif", status=2).stderr)
 
     def test_atoms_too_near_are_refused(self):
         self.file.write_text(CAESIUM_CHLORIDE.replace("0.5 0.5 0.5", "0.2 0 0"))

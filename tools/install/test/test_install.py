@@ -13,6 +13,8 @@ from pathlib import Path
 
 from testing import PROGRAM, TOOLS, TOP, FolderTest, ends_soon, long_test, need_commands, need_modules, need_program, run
 
+import crystal_nets.commands
+
 INSTALL = TOOLS / "install"
 PAGES = [TOP / "docs/net_tool.1", *sorted(TOOLS.glob("*.1")), *sorted(TOOLS.glob("*/*.1"))]
 EIGHT_NAMES = [b"dia, diamond", b"hcb, graphite layer", b"pcu, alpha polonium", b"srs, strontium disilicide",
@@ -74,7 +76,7 @@ class Installed(FolderTest):
         self.assertIn("takes one command", self.told("net_tool help check key", 2)[1])
         version = self.told("net_tool --version", 0)[0].decode()
         self.assertIn((TOOLS.parent / "TOOLCHAIN").read_text().strip(), version)
-        self.assertRegex(version, r"^net_tool, commit ([0-9a-f]{12}|not known)")
+        self.assertRegex(version, rf"^net_tool {re.escape(crystal_nets.__version__)}, commit ([0-9a-f]{{12}}|not known)")
         output, said = self.told("net_tool", 2)
         self.assertIn(b"usage: net_tool COMMAND", output)
         self.assertEqual(said, "net_tool: 'net_tool help' lists the commands\n")
@@ -146,6 +148,23 @@ class Installed(FolderTest):
             self.assertEqual(done.returncode, 0, command.name)
             self.assertIn(command.name.encode(), done.stdout + done.stderr)
         self.assertEqual(list(self.folder.iterdir()), [])
+
+    def test_each_command_of_python_tells_the_version(self):
+        for name in crystal_nets.commands.HOMES:
+            self.assertEqual(self.told(f"{name} --version", 0), (f"{name} (net_tool) {crystal_nets.__version__}\n".encode(), ""))
+
+    def test_help_needs_no_package(self):
+        """Where the packages of Python are missing that a command works with, it says so of its work."""
+        works = {"make_archives": ["a", "b"], "draw_nets": ["--svg", "a"]}
+        for name, packages in crystal_nets.commands.PACKAGES.items():
+            code = (f"import sys; sys.modules.update(dict.fromkeys({packages.replace('python3-', '').split()}))\n"
+                    f"sys.argv = [{name!r}, *sys.argv[1:]]\nimport crystal_nets.commands; crystal_nets.commands.main()")
+            for words, status in ((["--help"], 0), (works.get(name, ["a"]), crystal_nets.commands.FAILED.get(name, 1))):
+                done = run("sh", "-c", 'cd "$0" && exec "$@"', self.folder, "/usr/bin/python3", "-B", "-c", code, *words,
+                           PYTHONPATH=str(self.module), status=status)
+                told = (done.stdout if not status else done.stderr).decode()
+                self.assertIn(f"usage: {name}" if not status else f"apt-get install {packages}", told)
+                self.assertNotIn("Traceback", told)
 
     def test_examples_are_all_installed(self):
         names = {path.name for path in (TOOLS.parent / "examples").iterdir()}
@@ -306,6 +325,19 @@ class Scripts(FolderTest):
                 self.assertGreater(len(done.stdout), 80, script)
         self.assertEqual(list(self.folder.iterdir()), [])
 
+    def test_the_tests_of_some_folders(self):
+        """tools/test runs those of the folders that are given, with the program that is given."""
+        for name in ("a", "b"):
+            (self.folder / name / "test").mkdir(parents=True)
+            (self.folder / name / f"test/test_{name}.py").write_text(
+                "import unittest\nfrom testing import IS_LONG, PROGRAM\nclass One(unittest.TestCase):\n"
+                f"    def test_one(self):\n        self.assertEqual((PROGRAM, IS_LONG), ({str(self.folder / 'program')!r}, True))\n")
+        for words, passed in (((self.folder / "a",), 1), ((self.folder / "a/test", self.folder / "b"), 2)):
+            done = run(TOOLS / "test", "--long", self.folder / "program", *words)
+            self.assertIn(f"tools: {passed} passed, 0 failed, 0 skipped\n", done.stdout.decode())
+        self.assertIn("1 failed", run(TOOLS / "test", self.folder / "b", self.folder / "program", status=1).stdout.decode())
+        self.assertIn(b"no option --other", run(TOOLS / "test", "--other", status=2).stderr)
+
     def test_pages_have_each_option(self):
         need_modules("gemmi", "numpy", "scipy", "flask")
         for page in PAGES[1:]:
@@ -314,7 +346,7 @@ class Scripts(FolderTest):
                 script, = [path for folder in ("tools", "archives") for path in TOP.glob(f"{folder}/**/{name}")
                            if path.is_file()] or [None]
                 told = run(script, "--help").stdout.decode()
-                for option in set(re.findall(r"(?m)^  +(?:-\w, )?--([a-z-]+)", told)) - {"help"}:
+                for option in set(re.findall(r"(?m)^  +(?:-\w, )?--([a-z-]+)", told)) - {"help", "version"}:
                     self.assertRegex(text, rf"Fl -{option}\b", f"{name} --{option}")
 
 

@@ -10,14 +10,13 @@ import signal
 import sys
 from collections.abc import Callable
 
+from ..command_line import parser_of
 from ..texts.net_text import NetReport, NoReport, nets_of_report
 from ..texts.row_text import COMMANDS, row_of
 
 
 def words() -> argparse.Namespace:
-    parser = argparse.ArgumentParser(
-        prog="net_rows", description=__doc__,
-        epilog="exit status: 0 told; 1 the text is no report; 2 usage.")
+    parser = parser_of("net_rows", __doc__, "exit status: 0 told; 1 the text is no report; 2 usage.")
     parser.add_argument("--json", action="store_true", help="JSON lines")
     parser.add_argument("--blocks-before", type=int, default=0, metavar="N",
                         help="blocks before those of the report, for pieces of a longer file")

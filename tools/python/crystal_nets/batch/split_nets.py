@@ -18,6 +18,7 @@ from collections.abc import Callable, Iterable, Iterator
 from dataclasses import dataclass
 from pathlib import Path
 
+from ..command_line import parser_of
 from ..files import AHEAD, opened_plain, write_whole
 from ..net import Net
 from ..reading import holds_structure, is_ended, is_plain, net_of_chunk, nets_of_cif
@@ -28,9 +29,9 @@ from .pieces import INDEX, IndexRow, sum_of_piece
 
 
 def words() -> argparse.Namespace:
-    parser = argparse.ArgumentParser(
-        prog="split_nets", description=__doc__,
-        epilog="exit status: 0 cut; 1 a file cannot be read or written, a block is too long, or one gives no net; 2 usage.")
+    parser = parser_of(
+        "split_nets", __doc__,
+        "exit status: 0 cut; 1 a file cannot be read or written, a block is too long, or one gives no net; 2 usage.")
     parser.add_argument("file", metavar="FILE", help="a file of nets or of structures, or - for standard input")
     parser.add_argument("folder", metavar="FOLDER", type=Path, help="made where it is not there")
     parser.add_argument("--blocks", type=within(MOST_BLOCKS), default=MOST_BLOCKS, metavar="N",

@@ -14,6 +14,7 @@ import webbrowser
 from collections.abc import Callable
 from pathlib import Path
 
+from ..command_line import parser_of
 from ..errors import lacking
 from .worker import Limits, Workers
 
@@ -27,8 +28,7 @@ ENDS = (signal.SIGINT, signal.SIGTERM, signal.SIGHUP)  # end the server
 
 
 def words() -> argparse.Namespace:
-    parser = argparse.ArgumentParser(prog="net_desk", description=DESCRIPTION, epilog=EPILOG,
-                                     formatter_class=argparse.RawDescriptionHelpFormatter)
+    parser = parser_of("net_desk", DESCRIPTION, EPILOG, is_laid_out=True)
     parser.add_argument("files", nargs="*", metavar="FILE", type=Path, help="files that the page shows at once")
     parser.add_argument("--port", type=port, default=0, metavar="N", help="listen there; at a free port where none is given")
     parser.add_argument("--no-browser", action="store_true", help="print the address alone")

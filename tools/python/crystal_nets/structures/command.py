@@ -14,17 +14,17 @@ from collections.abc import Iterable, Iterator
 from concurrent.futures import Future, ProcessPoolExecutor
 from concurrent.futures.process import BrokenProcessPool
 from itertools import islice
+from typing import TYPE_CHECKING
 
+from ..command_line import parser_of
 from ..errors import NotAnOption
 from ..files import telling_text
-from ..options import elements_of, lengths_of, twice_given
+from ..options import CHOICES, elements_of, lengths_of, twice_given
 from ..progress import Progress
-from .bonds.listed import BY_RULES, WAYS
-from .bonds.rules import INTERMETALLIC
-from .nets.choice import ZEOLITE, Options
-from .units.conventions import AUTO_BY_DEFAULT, convention_named
-from .conversion import Conversion, Source, read_and_convert
-from .files import files_of, sources_of
+
+if TYPE_CHECKING:  # for words alone, as --help, no package is loaded that reads structures
+    from .conversion import Conversion, Source
+    from .nets.choice import Options
 
 DESCRIPTION = """The underlying nets of crystal structures, for net_tool: reads CIF files, and all of a folder,
 and writes a block PERIODIC_GRAPH for each net to standard output. What a reader should know of
@@ -32,7 +32,6 @@ a net, and why a file gives none, goes to standard error."""
 EPILOG = """exit status: 0 a net of each file was written; 1 of some file none was; 2 usage, or notes that
 could not be written.
 example: cif2cgd quartz.cif | net_tool identify - --archive common.archive"""
-MODES = (ZEOLITE, INTERMETALLIC)
 DONE, SOME_REFUSED, USAGE = 0, 1, 2
 OBJECTS_BETWEEN = 200_000  # that are made until the collector of garbage looks again
 PORTION = 8       # files that a process reads at a time
@@ -40,9 +39,7 @@ PORTIONS_AHEAD = 4  # for each process
 
 
 def words() -> argparse.Namespace:
-    parser = argparse.ArgumentParser(
-        prog="cif2cgd", description=DESCRIPTION, epilog=EPILOG,
-        formatter_class=argparse.RawDescriptionHelpFormatter)
+    parser = parser_of("cif2cgd", DESCRIPTION, EPILOG, is_laid_out=True)
     parser.add_argument("files", nargs="+", metavar="FILE",
                         help="a CIF file, a folder of them, or - for standard input")
     parser.add_argument("--leave-out", default=frozenset(), metavar="ELEMENTS", type=elements,
@@ -51,18 +48,19 @@ def words() -> argparse.Namespace:
                         help="of these two elements, bonds up to the length and no others (0: none)")
     parser.add_argument("--keep-ions", action="store_true",
                         help="keep the cations that a framework holds as guests")
-    parser.add_argument("--convention", default=AUTO_BY_DEFAULT, type=convention, metavar="NAME",
+    conventions = parser.add_mutually_exclusive_group()
+    conventions.add_argument("--convention", default="", type=convention, metavar="NAME",
                         help="what is a vertex: all-atoms, single-nodes, all-nodes, pe, pem, standard; auto gives "
                         "those that apply and differ (where none is named: auto for organic carbon with metals, else "
                         "all-atoms)")
-    parser.add_argument("--mode", default="", choices=MODES, metavar="MODE",
+    parser.add_argument("--mode", default="", choices=list(filter(None, CHOICES["mode"])), metavar="MODE",
                         help="zeolite: tetrahedral atoms and their oxygens alone; intermetallic: all contacts up to "
                         "a gap")
-    parser.add_argument("--bonds", default=BY_RULES, choices=WAYS, metavar="WAY",
+    parser.add_argument("--bonds", default="rules", choices=CHOICES["bonds"], metavar="WAY",
                         help="rules (where none is named), file for those of _geom_bond, or both, to see where they "
                         "differ")
-    parser.add_argument("--clusters", action="store_const", dest="convention", const="single-nodes",
-                        help="the same as --convention single-nodes")
+    conventions.add_argument("--clusters", action="store_const", dest="convention", const="single-nodes",
+                             help="the same as --convention single-nodes")
     parser.add_argument("--hydrogen-bonds", action="store_true",
                         help="hydrogen bonds are edges (in ices they always are)")
     parser.add_argument("--partial-as-full", action="store_true",
@@ -90,6 +88,7 @@ def elements(text: str) -> frozenset[str]:
 
 
 def convention(text: str) -> str:
+    from .units.conventions import convention_named
     try:
         return convention_named(text)
     except ValueError as reason:
@@ -114,6 +113,7 @@ def number_of_jobs(text: str) -> int:
 
 
 def options_of(asked: argparse.Namespace) -> Options:
+    from .nets.choice import Options
     return Options(
         leave_out=asked.leave_out, lengths=dict(asked.bond),
         keep_ions=asked.keep_ions, hydrogen_bonds=asked.hydrogen_bonds,
@@ -126,6 +126,7 @@ def main() -> int:
     signal.signal(signal.SIGINT, signal.SIG_DFL)
     gc.set_threshold(OBJECTS_BETWEEN)
     asked = words()
+    from .files import files_of, sources_of
     sources = sources_of(list(files_of(asked.files)))
     try:
         notes = telling_text(asked.notes) if asked.notes else None
@@ -168,6 +169,7 @@ def conversions(sources: list[Source], options: Options, jobs: int) -> Iterator[
 
 
 def convert_portion(sources: Iterable[Source], options: Options, stdin: bytes) -> Iterator[Conversion]:
+    from .conversion import read_and_convert
     return (read_and_convert(source, options, stdin) for source in sources)
 
 
@@ -180,6 +182,7 @@ def result_of(portion: list[Source], future: Future) -> list[Conversion]:
     try:
         return future.result()
     except BrokenProcessPool:
+        from .conversion import Conversion
         ended = [Conversion(source) for source in portion]
         for done in ended:
             done.refuse(done.source.label, "a process of cif2cgd was ended from outside; ask for fewer --jobs")

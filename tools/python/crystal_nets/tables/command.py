@@ -18,6 +18,7 @@ from functools import partial
 from pathlib import Path
 from typing import Any
 
+from ..command_line import parser_of
 from ..archive import Archive, default_files, files_of as archive_files
 from ..progress import Progress
 from ..errors import CrystalNetsError, ProgramFailed, in_words
@@ -27,7 +28,7 @@ from ..side_by_side import bind_programs, end_with_parent, processors
 from .join import FILES, join
 from .parquet import need_pyarrow, write_parquet
 from .piece import make_rows, path_of, rows_of
-from .plan import Failed, Plan, SourceAway, check_source, files_of, plan_of, read_plan, state_of
+from .plan import WHOLE, Failed, Plan, SourceAway, check_source, files_of, plan_of, read_plan, state_of
 
 DESCRIPTION = """The table of all nets of a source: a folder of structure files (.cif and others) and files of nets (.cgd,
 .arc), each packed by gzip or not, or one such file, with any number of nets. FOLDER gets table.tsv, a line for each net;
@@ -51,8 +52,7 @@ class OtherWords(Exception):
 
 
 def words() -> argparse.Namespace:
-    parser = argparse.ArgumentParser(prog="net_table", usage="net_table [options] [SOURCE] FOLDER", description=DESCRIPTION, epilog=EPILOG,
-                                     formatter_class=argparse.RawDescriptionHelpFormatter)
+    parser = parser_of("net_table", DESCRIPTION, EPILOG, usage="net_table [options] [SOURCE] FOLDER", is_laid_out=True)
     parser.add_argument("paths", metavar="[SOURCE] FOLDER", nargs="+", type=Path,
                         help="FOLDER alone takes up what is planned there")
     parser.add_argument("--archive", metavar="PATH", action="append", type=Path,
@@ -173,13 +173,25 @@ def _place(settings: dict[str, Any]) -> str:
     return os.path.normpath(os.path.join(str(settings["at"]), str(settings["source"])))
 
 
+def option_words(options: dict[str, Any]) -> dict[str, Any]:
+    """The options of structures by the words of the command line, with their values."""
+    named = {"lengths": "--bond"}
+    return {named.get(name, "--" + name.replace("_", "-")): value for name, value in options.items()}
+
+
 def words_of(settings: dict[str, Any]) -> dict[str, Any]:
     """The options that settings are made of, with their values."""
     switches = {"--keys-alone": settings["command"] == "key", "--topology": settings["topology"]}
     given = {"--seconds": settings["seconds"], **{word: True for word, is_given in switches.items() if is_given}}
-    named = {"lengths": "--bond"}
-    given |= {named.get(name, "--" + name.replace("_", "-")): value for name, value in settings["options"].items()}
+    given |= option_words(settings["options"])
     return {word: value for word, value in given.items() if value is not None}
+
+
+def tell_idle_options(plan: Plan) -> None:
+    """Tells options of structures where the source has files of nets alone, for which they do nothing."""
+    given = option_words(plan.settings["options"])
+    if given and not any(portion.kind == WHOLE for number in range(1, len(plan.pieces) + 1) for portion in plan.piece(number).portions):
+        print(f"net_table: without effect, since the source has no structures: {', '.join(given)}", file=sys.stderr)
 
 
 def _check_words(plan: Plan, settings: dict[str, Any], folder: Path, is_whole: bool) -> None:
@@ -260,6 +272,7 @@ def make_table(asked: argparse.Namespace) -> int:
         need_pyarrow()
     with alone(work):
         plan = planned(asked, folder, work)
+        tell_idle_options(plan)
         if asked.plan:
             print(f"{folder}: {len(plan.pieces)} pieces")
             return 0

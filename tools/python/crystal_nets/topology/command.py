@@ -11,6 +11,7 @@ import sys
 from collections.abc import Iterator
 from pathlib import Path
 
+from ..command_line import parser_of
 from ..errors import NotANet, PackageMissing, in_words
 from ..net import Net
 from ..reading import read
@@ -21,8 +22,7 @@ HEAD = ("source", "name", "point_symbol", "vertex_symbols", "td10", "transitivit
 
 
 def words() -> argparse.Namespace:
-    parser = argparse.ArgumentParser(prog="net_topology", description=__doc__,
-                                     epilog="exit status: 0 all was told; 1 something was not; 2 usage.")
+    parser = parser_of("net_topology", __doc__, "exit status: 0 all was told; 1 something was not; 2 usage.")
     parser.add_argument("files", metavar="FILE", nargs="+", help="nets or structures, or a folder of them")
     parser.add_argument("--json", action="store_true", help="a line of JSON for each net, with each kind of vertex")
     return parser.parse_args()
