@@ -249,7 +249,7 @@ def _net_of_block(chunk: Chunk, lines: list[bytes]) -> Net:
         net = net_of_block(block, notes)
     except Refused as reason:
         return Net.refused(f"line {reason.line or chunk.opening_line}: {reason.reason}", name, notes)
-    except MemoryError:
+    except (MemoryError, ModuleNotFoundError):
         raise
     except Exception as fault:  # of the reader, or of a library: the next block may still be read
         return Net.refused(f"line {chunk.opening_line}: {type(fault).__name__} {fault}", name, notes)

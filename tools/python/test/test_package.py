@@ -40,12 +40,30 @@ class Imports(unittest.TestCase):
                 "print(*({'numpy', 'gemmi', 'scipy', 'pandas', 'networkx'} & set(sys.modules)))")
         self.assertEqual(run(sys.executable, "-I", "-c", code, NET_TOOL=PROGRAM).stdout, b"\n")
 
+    def test_blocks_that_need_python_alone(self):
+        """Key lines and blocks PERIODIC_GRAPH of other programs; of a CRYSTAL it is told what it needs, and no block is refused
+        for it."""
+        graph, crystal = "PERIODIC_GRAPH\nEDGES\na a 1 0\na a 0 1\nEND\n", "CRYSTAL\nGROUP Pm-3m\nNODE 1 6 0 0 0\nEND\n"
+        items = "key 2 1 1 1 0 1 1 0 1\nid sql\nend\n"
+        code = ("import sys; sys.modules.update(dict.fromkeys(['numpy', 'gemmi', 'scipy']))\nsys.argv[0] = 'cgd2net'\n"
+                f"sys.path.insert(0, {str(FOLDER)!r})\nimport crystal_nets.commands; crystal_nets.commands.main()")
+        done = run("/usr/bin/python3", "-B", "-c", code, stdin=(graph + items).encode())
+        self.assertEqual(done.stdout.count(b"PERIODIC_GRAPH\n"), 2)
+        done = run("/usr/bin/python3", "-B", "-c", code, stdin=(graph + crystal + items).encode(), status=1)
+        self.assertRegex(done.stderr.decode(), "\\ncgd2net: .*apt-get install python3-gemmi python3-numpy")
+        self.assertNotIn(b"Traceback", done.stderr)
+        code = (f"import sys; sys.modules.update(dict.fromkeys(['numpy', 'gemmi', 'scipy'])); sys.path.insert(0, {str(FOLDER)!r})\n"
+                f"import crystal_nets as c\nprint(c.read({graph + items!r}))\ntry: c.read({crystal!r})\nexcept c.PackageMissing as told: print(told)")
+        told = run("/usr/bin/python3", "-B", "-c", code).stdout.decode().splitlines()
+        self.assertEqual(told[0].count("1 vertex, 2 edges, dimension 2"), 2)
+        self.assertIn("python3-gemmi", told[1])
+
     def test_what_is_advised_is_what_is_loaded(self):
         """Where a package is missing, no other is named than those that are needed."""
         need_modules("gemmi", "numpy", "scipy")
         for modules, advised, by_command in (
-                ("structures.conversion", options.STRUCTURE_PACKAGES, "cif2cgd"), ("blocks.converter", options.BLOCK_PACKAGES, "cgd2net"),
-                ("blocks.collection", options.BLOCK_PACKAGES, "make_archives")):
+                ("structures.conversion", options.STRUCTURE_PACKAGES, "cif2cgd"), ("blocks.expansion", options.BLOCK_PACKAGES, "cgd2net"),
+                ("blocks.symbolic", options.BLOCK_PACKAGES, "make_archives")):
             code = (f"import sys; sys.path.insert(0, {str(FOLDER)!r})\nimport crystal_nets.{modules}\n"
                     "print(*sorted({'gemmi', 'numpy', 'scipy', 'spglib', 'ase', 'flask'} & set(sys.modules)))")
             loaded = " ".join(f"python3-{name}" for name in run(sys.executable, "-I", "-c", code).stdout.decode().split())

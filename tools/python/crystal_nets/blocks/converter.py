@@ -12,12 +12,9 @@ from ..refusal import Refused
 from ..texts.graph_text import plain
 from ..texts.net_text import ALONE, BYTE_ORDER_MARK, ends_stray, first_word, is_stray, opens_block, told_of_stray
 
-from .crystal import Fields, crystal_of
-from .expansion import net_of_crystal_block
 from .key_lines import net_of_item
 from .periodic_graph import rewritten
 from .sections import are_numbers, sections_of
-from .symbolic import symbolic_net
 from .tokens import decoded, number_of, shown, tokens_of
 
 MOST_LINES = 40_000
@@ -178,6 +175,8 @@ class Converter:
             self._tell_notes(block, notes)
             self._refuse(block, reason)
             return
+        except ModuleNotFoundError:  # of a package, without which no such block is read
+            raise
         except Exception as fault:  # of this tool, or of a library: the next block may still be read
             self._refuse(block, Refused(f"cgd2net failed: {type(fault).__name__} {fault}"))
             return
@@ -251,6 +250,9 @@ def _net_made_of(block: Block, notes: list[str | Note]) -> Net:
         return net_of_item(numbered[:-1], notes)
     if len(tokens_of(numbered[0][1], block.line)) > 1:
         raise Refused(MORE_WORDS.format(block.kind), block.line)
+    from .crystal import Fields, crystal_of  # whose packages no text of other blocks needs
+    from .expansion import net_of_crystal_block
+    from .symbolic import symbolic_net
     fields = Fields(sections_of(numbered[1:-1]))
     notes += fields.dropped(USED[block.kind])
     if block.kind == "NET":
