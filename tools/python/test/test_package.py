@@ -10,7 +10,7 @@ import sys
 import tomllib
 import unittest
 
-from testing import PROGRAM, TOOLS, FolderTest, long_test, need_modules, need_program, run
+from testing import PROGRAM, TOOLS, TOP, FolderTest, long_test, need_modules, need_program, run
 
 from crystal_nets import commands, options
 
@@ -98,6 +98,23 @@ class Docstrings(unittest.TestCase):
             self.assertEqual(done.failed, 0, name)
             tried += done.attempted
         self.assertGreater(tried, 25)
+
+    def test_examples_in_documents(self):
+        """As a reader types them, in the folder of the repository."""
+        need_program()
+        need_modules("gemmi", "numpy", "scipy", "ase", "pandas")
+        import crystal_nets
+        folder = os.getcwd()
+        self.addCleanup(os.chdir, folder)
+        os.chdir(TOP)
+        for document, least in (("README.md", 4), ("tools/python/README.md", 9)):
+            lines = (TOP / document).read_text().splitlines()
+            text = "".join(line.removeprefix("    ") + "\n" for line in lines if line.startswith("    ") or not line)
+            names = {name: getattr(crystal_nets, name) for name in crystal_nets.__all__}
+            runner = doctest.DocTestRunner()
+            runner.run(doctest.DocTestParser().get_doctest(text, names, document, document, 0))
+            self.assertEqual(runner.failures, 0, document)
+            self.assertGreaterEqual(runner.tries, least)
 
     def test_each_public_name_has_a_docstring(self):
         import crystal_nets
