@@ -155,7 +155,8 @@ class Installed(FolderTest):
 
     def test_help_needs_no_package(self):
         """Where the packages of Python are missing that a command works with, it says so of its work."""
-        works = {"make_archives": ["a", "b"], "draw_nets": ["--svg", "a"]}
+        crystals = str(self.share / "examples/embedded.cgd")
+        works = {"cgd2net": [crystals], "make_archives": ["a", crystals], "draw_nets": ["--svg", "a"]}
         for name, packages in crystal_nets.commands.PACKAGES.items():
             code = (f"import sys; sys.modules.update(dict.fromkeys({packages.replace('python3-', '').split()}))\n"
                     f"sys.argv = [{name!r}, *sys.argv[1:]]\nimport crystal_nets.commands; crystal_nets.commands.main()")
@@ -274,6 +275,21 @@ class Installed(FolderTest):
         pages = {path.name.removesuffix(".1.gz") for path in (self.prefix / "share/man/man1").iterdir()}
         self.assertLessEqual({path.name for path in (self.prefix / "bin").iterdir()}, pages)
 
+    def test_completion_of_the_tools(self):
+        """Each command in Python has its options completed, by the file that bash looks for under its name."""
+        need_commands("bash")
+        completions = self.prefix / "share/bash-completion/completions"
+        self.assertEqual({path.name for path in completions.iterdir()}, {"net_tool", *crystal_nets.commands.HOMES})
+        for name in crystal_nets.commands.HOMES:
+            script = (f"source {completions / name}; COMP_WORDS=({name} a --); COMP_CWORD=2; complete -p {name} >&2; "
+                      f"_net_tools {name}; printf '%s\\n' \"${{COMPREPLY[@]}}\"")
+            done = run("bash", "-c", script, PATH=self.path)
+            self.assertIn(f"-F _net_tools {name}", done.stderr.decode())
+            self.assertLessEqual({"--help", "--version"}, set(done.stdout.decode().split()))
+        done = run("bash", "-c", f"source {completions / 'cif2cgd'}; COMP_WORDS=(cif2cgd --keep); COMP_CWORD=1; _net_tools cif2cgd; echo $COMPREPLY",
+                   PATH=self.path)
+        self.assertEqual(done.stdout, b"--keep-ions\n")
+
     def test_the_examples_of_the_page_run(self):
         """As they are printed, one after the other, in the folder that is installed."""
         page = (TOP / "docs/net_tool.1").read_text().partition(".Sh EXAMPLES\n")[2].partition(".Sh ")[0]
@@ -285,6 +301,11 @@ class Installed(FolderTest):
             output, said = self.told(f"cd {folder} && {command}", 0)
             self.assertEqual(said, "", command)
         self.assertIn(b'group "sample A" "mine"', output + self.told(f"cd {folder} && net_tool duplicates --archive more.net", 0)[0])
+
+    def test_what_can_be_run_is_a_script_or_the_program(self):
+        for path in self.root.rglob("*"):
+            if path.is_file() and os.access(path, os.X_OK):
+                self.assertIn(path.read_bytes()[:2], (b"#!", b"\x7fE"), path)
 
     def test_no_file_of_tests_is_installed(self):
         self.assertEqual([path for path in self.root.rglob("*test*")], [])

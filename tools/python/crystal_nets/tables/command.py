@@ -28,7 +28,7 @@ from ..side_by_side import bind_programs, end_with_parent, processors
 from .join import FILES, join
 from .parquet import need_pyarrow, write_parquet
 from .piece import make_rows, path_of, rows_of
-from .plan import WHOLE, Failed, Plan, SourceAway, check_source, files_of, plan_of, read_plan, state_of
+from .plan import WHOLE, Failed, Plan, Settings, SourceAway, check_source, files_of, plan_of, read_plan, state_of
 
 DESCRIPTION = """The table of all nets of a source: a folder of structure files (.cif and others) and files of nets (.cgd,
 .arc), each packed by gzip or not, or one such file, with any number of nets. FOLDER gets table.tsv, a line for each net;
@@ -130,7 +130,7 @@ def part(text: str) -> tuple[int, int]:
     return int(first), int(step)
 
 
-def settings_of(asked: argparse.Namespace, source: Path) -> dict[str, Any]:
+def settings_of(asked: argparse.Namespace, source: Path) -> Settings:
     """What the rows depend on beside the state of the source."""
     options: dict[str, Any] = {name: True for name in SWITCHES if getattr(asked, name)}
     options |= {name: getattr(asked, name) for name in ("convention", "mode", "bonds") if getattr(asked, name)}
@@ -160,15 +160,16 @@ def planned(asked: argparse.Namespace, folder: Path, work: Path) -> Plan:
     files = files_of(source)
     if not files:
         raise Failed(f"{source} has no files .cif, .mcif, .cgd or .arc")
-    state = state_of(files)
-    plan = plan_of(files, {**settings_of(asked, source), "state": state})
+    settings = settings_of(asked, source)
+    settings["state"] = state_of(files)
+    plan = plan_of(files, settings)
     check_source(plan)
     work.mkdir(parents=True, exist_ok=True)
     write_whole(path, plan.content)
     return plan
 
 
-def _place(settings: dict[str, Any]) -> str:
+def _place(settings: Settings) -> str:
     """The path of a source, which may be given from several folders."""
     return os.path.normpath(os.path.join(str(settings["at"]), str(settings["source"])))
 
@@ -179,7 +180,7 @@ def option_words(options: dict[str, Any]) -> dict[str, Any]:
     return {named.get(name, "--" + name.replace("_", "-")): value for name, value in options.items()}
 
 
-def words_of(settings: dict[str, Any]) -> dict[str, Any]:
+def words_of(settings: Settings) -> dict[str, Any]:
     """The options that settings are made of, with their values."""
     switches = {"--keys-alone": settings["command"] == "key", "--topology": settings["topology"]}
     given = {"--seconds": settings["seconds"], **{word: True for word, is_given in switches.items() if is_given}}
@@ -190,11 +191,11 @@ def words_of(settings: dict[str, Any]) -> dict[str, Any]:
 def tell_idle_options(plan: Plan) -> None:
     """Tells options of structures where the source has files of nets alone, for which they do nothing."""
     given = option_words(plan.settings["options"])
-    if given and not any(portion.kind == WHOLE for number in range(1, len(plan.pieces) + 1) for portion in plan.piece(number).portions):
+    if given and not any(portion.kind == WHOLE for piece in plan.pieces for portion in piece):
         print(f"net_table: without effect, since the source has no structures: {', '.join(given)}", file=sys.stderr)
 
 
-def _check_words(plan: Plan, settings: dict[str, Any], folder: Path, is_whole: bool) -> None:
+def _check_words(plan: Plan, settings: Settings, folder: Path, is_whole: bool) -> None:
     """OtherWords where a plan is not of the options that are given, or, where these are whole, of others too."""
     known, given = words_of(plan.settings), words_of(settings)
     for word in sorted({*known, *given} if is_whole else given):
