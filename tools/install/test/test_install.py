@@ -275,6 +275,17 @@ class Installed(FolderTest):
         pages = {path.name.removesuffix(".1.gz") for path in (self.prefix / "share/man/man1").iterdir()}
         self.assertLessEqual({path.name for path in (self.prefix / "bin").iterdir()}, pages)
 
+    def test_numbers_that_are_none_are_told(self):
+        """By what they may be, and by no name of the code."""
+        need_modules("gemmi", "numpy", "scipy")
+        for words in ("cif2cgd --jobs {} x", "net_table --jobs {} x y", "net_table --seconds {} x y", "draw_nets --page x --jobs {}",
+                      "draw_nets --page x --only {}", "draw_nets --png x --width {}", "net_gallery --jobs {} x", "split_nets --blocks {} x y",
+                      "split_nets --bytes {} x y", "key_piece --seconds {} x 1", "net_desk --port {}", "net_desk --seconds {}",
+                      "net_desk --memory {}", "net_rows --blocks-before {}", "net_rows --lines-before {}"):
+            for value in ("x", "-1", "1.5", "9" * 5000, "٣"):
+                said = self.told(words.replace("{}", f"'{value}'"), 2)[1]
+                self.assertRegex(said, r"error: argument --\w[\w-]*: ('.*' is not from \d+ to \d+|expected one argument)\n$", (words, value[:9]))
+
     def test_completion_of_the_tools(self):
         """Each command in Python has its options completed, by the file that bash looks for under its name."""
         need_commands("bash")

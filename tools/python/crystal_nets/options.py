@@ -16,6 +16,12 @@ CONVENTION_NAMES: tuple[str, ...] = get_args(ConventionName)
 ModeName = Literal["", "zeolite", "intermetallic"]
 WayName = Literal["rules", "file", "both"]
 CHOICES = {"mode": get_args(ModeName), "bonds": get_args(WayName)}
+# the options that are on or off, with what each does
+SWITCHES = {"keep_ions": "keep the cations that a framework holds as guests",
+            "hydrogen_bonds": "hydrogen bonds are edges (in ices they always are)",
+            "partial_as_full": "take partly occupied atoms of a net as full",
+            "accept_misfit": "take atoms that do not fit the formula, or are too near",
+            "every_copy": "give each of several nets of the same atoms"}
 LONGEST_BOND = 20.0  # angstrom
 STRUCTURE_PACKAGES = "apt-get install python3-gemmi python3-numpy python3-scipy"
 BLOCK_PACKAGES = "apt-get install python3-gemmi python3-numpy"

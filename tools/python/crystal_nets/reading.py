@@ -32,8 +32,9 @@ if TYPE_CHECKING:
 
 CIF = re.compile(rb"(?im)^[ \t]*(?:data_|_cell_|_atom_site_)")
 CIF_SUFFIXES = (".cif", ".mcif", ".mmcif")
-OTHER_SUFFIXES = (".vasp", ".poscar", ".contcar", ".xyz", ".extxyz")  # structures that ase reads
-SUFFIXES = (*CIF_SUFFIXES, *OTHER_SUFFIXES, ".cgd", ".arc")  # of the files of a folder
+XYZ_SUFFIXES = (".xyz", ".extxyz")
+STRUCTURE_SUFFIXES = (*CIF_SUFFIXES, ".vasp", ".poscar", ".contcar", *XYZ_SUFFIXES)  # all but those of CIF are for ase
+SUFFIXES = (*STRUCTURE_SUFFIXES, ".cgd", ".arc")  # of the files of a folder
 ROW = rb'(?:[+-]?\d++|"[^"\n]*+")[ \t]++(?:[+-]?\d++|"[^"\n]*+")[ \t]++[-+\d \t]++'
 HEAD_LINE = rb'END|(?:NAME|ID)[ \t]++(?:"[^"\n]*+"|[^\s"#]++)|'  # or nothing
 LINE_END = rb'[ \t\r]*+(?:#[^\n]*+)?\n'
@@ -128,12 +129,17 @@ def is_known(file: str) -> bool:
     return _suffix_of(file) in SUFFIXES
 
 
+def is_structure_file(file: str) -> bool:
+    """Whether a file of this name is one of a structure, packed by gzip or not."""
+    return _suffix_of(file) in STRUCTURE_SUFFIXES
+
+
 def holds_structure(content: bytes, file: str) -> bool:
     """Whether it is a structure: by the ending of the name, and where there is none of those by what stands in the
     text."""
     suffix = _suffix_of(file)
     if suffix in SUFFIXES:
-        return suffix in (*CIF_SUFFIXES, *OTHER_SUFFIXES)
+        return suffix in STRUCTURE_SUFFIXES
     return is_poscar(file, content) or CIF.search(content) is not None
 
 
@@ -160,7 +166,7 @@ def unpacked(content: bytes, file: str, most: int = MOST_UNPACKED) -> tuple[byte
 
 def _options_for(file: str, options: Mapping[str, object]) -> Mapping[str, object]:
     """The options, where the file is a structure."""
-    return options if _suffix_of(file) in (*CIF_SUFFIXES, *OTHER_SUFFIXES) else {}
+    return options if is_structure_file(file) else {}
 
 
 def _without_options(nets: list[Net], options: Mapping[str, object]) -> list[Net]:

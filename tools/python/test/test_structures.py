@@ -6,11 +6,13 @@ import sys
 import time
 import unittest
 from pathlib import Path
+from typing import get_type_hints
 
 from testing import IS_LONG, TOOLS, TOP, FolderTest, long_test, need_modules, need_program, run
 
 from crystal_nets import (Archive, Net, NotANet, NotAnOption, StructureOptions, components, identify,  # noqa: E402
                           identify_all, read, same, without_twins)
+from crystal_nets.options import SWITCHES  # noqa: E402
 from crystal_nets.provenance import Provenance  # noqa: E402
 
 ROCK_SALT = """data_rock_salt
@@ -57,6 +59,7 @@ class Options(unittest.TestCase):
         from crystal_nets.structures.nets.choice import Options as Read
         from crystal_nets.structures.units.conventions import AUTO, CONVENTIONS
         self.assertEqual(set(StructureOptions.__annotations__), {entry.name for entry in dataclasses.fields(Read)})
+        self.assertEqual({name for name, kind in get_type_hints(StructureOptions).items() if kind is bool}, set(SWITCHES))
         self.assertEqual(set(CONVENTION_NAMES), {*CONVENTIONS, AUTO})
 
     def test_elements_are_whole_symbols(self):

@@ -10,10 +10,12 @@ import sys
 from dataclasses import fields
 from pathlib import Path
 
-from ..command_line import parser_of
+from ..command_line import parser_of, whole_number
 from ..side_by_side import processors
-from ..texts.net_text import nets_of_report
+from ..texts.net_text import MOST_BLOCKS, nets_of_report
 
+MOST_JOBS = 256
+MOST_WIDTH = 32_767  # of a picture, in pixels, as librsvg draws it
 EPILOG = """exit status: 0 all is drawn; 1 some net has no picture or crystal, or a file cannot be written; 2 usage.
 example: net_tool identify nets.cgd | draw_nets --svg pictures --page nets.html"""
 
@@ -27,10 +29,10 @@ def words() -> argparse.Namespace:
                         help="the standard realizations as blocks CRYSTAL, with groups by spglib")
     parser.add_argument("--cif", metavar="FOLDER", type=Path, help="the same as CIF, NUMBER_NAME.cif")
     parser.add_argument("--title", help="of the page (Nets)")
-    parser.add_argument("--only", metavar="N", type=int, help="the net with this number alone")
-    parser.add_argument("--jobs", metavar="N", type=number_of_jobs, default=processors(),
+    parser.add_argument("--only", metavar="N", type=whole_number(1, MOST_BLOCKS), help="the net with this number alone")
+    parser.add_argument("--jobs", metavar="N", type=whole_number(1, MOST_JOBS), default=processors(),
                         help="processes side by side, as many as processors where it is not given")
-    parser.add_argument("--width", metavar="N", type=int, help="of PNG, in pixels (800)")
+    parser.add_argument("--width", metavar="N", type=whole_number(1, MOST_WIDTH), help="of PNG, in pixels (800)")
     asked = parser.parse_args()
     if not (asked.svg or asked.png or asked.page or asked.cgd or asked.cif):
         parser.error("give --svg, --png, --page, --cgd or --cif")
@@ -38,13 +40,6 @@ def words() -> argparse.Namespace:
         if value is not None and not getattr(asked, of[2:]):
             parser.error(f"{word} has no effect without {of}")
     return asked
-
-
-def number_of_jobs(text: str) -> int:
-    value = int(text)
-    if not 1 <= value <= 256:
-        raise argparse.ArgumentTypeError(f"{text} is not from 1 to 256")
-    return value
 
 
 def main() -> int:

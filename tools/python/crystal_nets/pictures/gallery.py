@@ -9,7 +9,7 @@ import signal
 import sys
 from pathlib import Path
 
-from ..command_line import parser_of
+from ..command_line import parser_of, whole_number
 from ..archive import default_files, files_of
 from ..wide.archive import SUFFIX
 from ..errors import NotAnArchive, ProgramFailed
@@ -19,7 +19,7 @@ from ..texts.archive_text import entries_of
 from ..texts.graph_text import text_of_graph
 from ..texts.net_text import NetReport, nets_of_report
 
-from .command import number_of_jobs
+from .command import MOST_JOBS
 
 EPILOG = """exit status: 0 each net is drawn; 1 some net has no picture, or a file is no archive; 2 usage; else that of
 net_tool. NET_TOOL is the program; where it is not set, the one of this installation or
@@ -30,7 +30,7 @@ def words() -> argparse.Namespace:
     parser = parser_of("net_gallery", __doc__, EPILOG)
     parser.add_argument("folder", metavar="FOLDER", type=Path, help="made where it is not there")
     parser.add_argument("archives", metavar="ARCHIVE", nargs="*", type=Path, default=[], help="an archive, or a folder of them")
-    parser.add_argument("--jobs", metavar="N", type=number_of_jobs, default=processors(),
+    parser.add_argument("--jobs", metavar="N", type=whole_number(1, MOST_JOBS), default=processors(),
                         help="processes side by side, as many as processors where it is not given")
     return parser.parse_args()
 

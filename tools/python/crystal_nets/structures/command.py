@@ -5,7 +5,6 @@ from __future__ import annotations
 import argparse
 import gc
 import multiprocessing
-import os
 import re
 import signal
 import sys
@@ -16,11 +15,12 @@ from concurrent.futures.process import BrokenProcessPool
 from itertools import islice
 from typing import TYPE_CHECKING
 
-from ..command_line import parser_of
+from ..command_line import add_switches, parser_of, whole_number
 from ..errors import NotAnOption
 from ..files import telling_text
-from ..options import CHOICES, elements_of, lengths_of, twice_given
+from ..options import CHOICES, SWITCHES, elements_of, lengths_of, twice_given
 from ..progress import Progress
+from ..side_by_side import processors
 
 if TYPE_CHECKING:  # for words alone, as --help, no package is loaded that reads structures
     from .conversion import Conversion, Source
@@ -46,8 +46,6 @@ def words() -> argparse.Namespace:
                         help="atoms of no concern, as Na,Cl")
     parser.add_argument("--bond", action="append", default=[], type=pair_and_length, metavar="A-B=LENGTH",
                         help="of these two elements, bonds up to the length and no others (0: none)")
-    parser.add_argument("--keep-ions", action="store_true",
-                        help="keep the cations that a framework holds as guests")
     conventions = parser.add_mutually_exclusive_group()
     conventions.add_argument("--convention", default="", type=convention, metavar="NAME",
                         help="what is a vertex: all-atoms, single-nodes, all-nodes, pe, pem, standard; auto gives "
@@ -61,15 +59,8 @@ def words() -> argparse.Namespace:
                         "differ")
     conventions.add_argument("--clusters", action="store_const", dest="convention", const="single-nodes",
                              help="the same as --convention single-nodes")
-    parser.add_argument("--hydrogen-bonds", action="store_true",
-                        help="hydrogen bonds are edges (in ices they always are)")
-    parser.add_argument("--partial-as-full", action="store_true",
-                        help="take partly occupied atoms of a net as full")
-    parser.add_argument("--accept-misfit", action="store_true",
-                        help="take atoms that do not fit the formula, or are too near")
-    parser.add_argument("--every-copy", action="store_true",
-                        help="write each of several nets of the same atoms")
-    parser.add_argument("--jobs", type=number_of_jobs, default=1, metavar="N",
+    add_switches(parser)
+    parser.add_argument("--jobs", type=whole_number(0, 9999), default=1, metavar="N",
                         help="read files in N processes; what is written is the same (0: one a processor)")
     parser.add_argument("--notes", metavar="FILE", help="write what is told as JSON, one line a file")
     parser.add_argument("--quiet", action="store_true", help="tell no more than doubts, what a net has not, and why a file "
@@ -106,19 +97,10 @@ def pair_and_length(text: str) -> tuple[frozenset[str], float]:
     return pair
 
 
-def number_of_jobs(text: str) -> int:
-    if not re.fullmatch(r"\d{1,4}", text, re.ASCII):
-        raise argparse.ArgumentTypeError(f"{text!r} is no number of processes")
-    return int(text) or len(os.sched_getaffinity(0))
-
-
 def options_of(asked: argparse.Namespace) -> Options:
     from .nets.choice import Options
-    return Options(
-        leave_out=asked.leave_out, lengths=dict(asked.bond),
-        keep_ions=asked.keep_ions, hydrogen_bonds=asked.hydrogen_bonds,
-        partial_as_full=asked.partial_as_full, accept_misfit=asked.accept_misfit,
-        every_copy=asked.every_copy, convention=asked.convention, mode=asked.mode, bonds=asked.bonds)
+    return Options(leave_out=asked.leave_out, lengths=dict(asked.bond), convention=asked.convention, mode=asked.mode,
+                   bonds=asked.bonds, **{name: getattr(asked, name) for name in SWITCHES})
 
 
 def main() -> int:
@@ -135,7 +117,7 @@ def main() -> int:
         return USAGE
     refused = 0
     with Progress("cif2cgd", len(sources), "files") as bar:
-        for done in conversions(sources, options_of(asked), asked.jobs):
+        for done in conversions(sources, options_of(asked), asked.jobs or processors()):
             bar.tell(done.told(asked.quiet))
             sys.stdout.buffer.write(done.text)
             if notes:

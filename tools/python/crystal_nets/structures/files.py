@@ -9,10 +9,8 @@ from pathlib import Path, PurePath
 from typing import NamedTuple
 
 from ..files import walked
+from ..reading import is_structure_file
 from .conversion import Source
-
-SUFFIXES = (".cif", ".mcif", ".mmcif", ".vasp", ".poscar", ".contcar", ".xyz", ".extxyz")  # of the files of a folder
-WITHOUT_SUFFIX = ("poscar", "contcar")
 
 
 class Given(NamedTuple):
@@ -31,14 +29,8 @@ def files_of(arguments: Iterable[str]) -> Iterator[Given]:
             continue
         away: list[OSError] = []
         for folder, names in walked(argument, away.append):
-            yield from (Given(os.path.join(folder, name), True) for name in names if is_structure(name))
+            yield from (Given(os.path.join(folder, name), True) for name in names if is_structure_file(name))
         yield from (Given(os.fsdecode(fault.filename), True) for fault in away)
-
-
-def is_structure(name: str) -> bool:
-    """Whether a file of this name is one of a structure."""
-    plain = name.lower().removesuffix(".gz")
-    return plain.endswith(SUFFIXES) or plain in WITHOUT_SUFFIX
 
 
 def sources_of(files: list[Given]) -> list[Source]:

@@ -18,12 +18,13 @@ from functools import partial
 from pathlib import Path
 from typing import Any
 
-from ..command_line import parser_of
+from ..command_line import add_switches, parser_of, whole_number
 from ..archive import Archive, default_files, files_of as archive_files
 from ..progress import Progress
 from ..errors import CrystalNetsError, ProgramFailed, in_words
 from ..files import write_whole
-from ..options import CHOICES, twice_given
+from ..reading import SUFFIXES
+from ..options import CHOICES, SWITCHES, twice_given
 from ..side_by_side import bind_programs, end_with_parent, processors
 from .join import FILES, join
 from .parquet import need_pyarrow, write_parquet
@@ -40,11 +41,9 @@ tries again; else that of net_tool.
 NET_TOOL is the program; where it is not set, the one of this installation or repository, or net_tool on the path.
 example: net_table structures results --jobs 4 --archive archives"""
 SOME_REFUSED, USAGE, FAILED = 1, 2, 3
+MOST_SECONDS = 1_000_000  # of a net
 TRY_AGAIN = 75  # EX_TEMPFAIL of sysexits.h
 ELSEWHERE = "take another folder, or remove it"
-SWITCHES = {"keep_ions": "keep the cations that a framework holds as guests", "hydrogen_bonds": "hydrogen bonds are edges",
-            "partial_as_full": "take partly occupied atoms as full", "accept_misfit": "take atoms that cannot be right",
-            "every_copy": "each of several nets of the same atoms"}
 
 
 class OtherWords(Exception):
@@ -65,9 +64,9 @@ def words() -> argparse.Namespace:
                         help="no placement and no sequences, which takes less time")
     parser.add_argument("--topology", action="store_true", help="point symbols, vertex symbols, td10 and transitivity too: "
                         "computed beside the program and not proved, in some 0.05 to 1.5 s a net")
-    parser.add_argument("--jobs", metavar="N", type=number_of_jobs, default=processors(),
+    parser.add_argument("--jobs", metavar="N", type=whole_number(1, 1024), default=processors(),
                         help="processes side by side, as many as processors where it is not given")
-    parser.add_argument("--seconds", metavar="N", type=number_of_seconds,
+    parser.add_argument("--seconds", metavar="N", type=whole_number(1, MOST_SECONDS),
                         help="for each net, after which its row is stopped; without it there is no limit")
     parser.add_argument("--parquet", action="store_true", help="write table.parquet and so on too, by pyarrow")
     parser.add_argument("--plan", action="store_true", help="write the plan alone, for --part")
@@ -81,8 +80,7 @@ def words() -> argparse.Namespace:
     structures.add_argument("--bond", action="append", default=[], type=pair_and_length, metavar="A-B=LENGTH",
                             help="of these two elements, bonds up to the length and no others (0: none)")
     structures.add_argument("--leave-out", metavar="ELEMENTS", help="atoms of no concern, as Na,Cl")
-    for name, text in SWITCHES.items():
-        structures.add_argument("--" + name.replace("_", "-"), action="store_true", help=text)
+    add_switches(structures)
     asked = parser.parse_args()
     if len(asked.paths) > 2:
         parser.error("give a SOURCE and a FOLDER, or a FOLDER alone")
@@ -102,18 +100,6 @@ def _check_together(parser: argparse.ArgumentParser, asked: argparse.Namespace) 
         without = [other for other, is_other in others.items() if is_given and is_other]
         if without:
             parser.error(f"{without[0]} has no effect with {one}")
-
-
-def number_of_jobs(text: str) -> int:
-    if not text.isdecimal() or not 1 <= int(text) <= 1024:
-        raise argparse.ArgumentTypeError(f"{text!r} is not from 1 to 1024")
-    return int(text)
-
-
-def number_of_seconds(text: str) -> int:
-    if not text.isdecimal() or not 1 <= int(text) <= 1_000_000:
-        raise argparse.ArgumentTypeError(f"{text!r} is not from 1 to 1000000")
-    return int(text)
 
 
 def pair_and_length(text: str) -> tuple[str, float]:
@@ -159,7 +145,7 @@ def planned(asked: argparse.Namespace, folder: Path, work: Path) -> Plan:
     source = asked.paths[0]
     files = files_of(source)
     if not files:
-        raise Failed(f"{source} has no files .cif, .mcif, .cgd or .arc")
+        raise Failed(f"{source} has no files of structures or nets: {', '.join(SUFFIXES)}")
     settings = settings_of(asked, source)
     settings["state"] = state_of(files)
     plan = plan_of(files, settings)

@@ -15,15 +15,13 @@ from typing import Any
 from ...errors import PackageMissing, lacking
 from ...other_forms import is_poscar
 from ...provenance import DROPPED, Note
-from ...reading import CIF_SUFFIXES
+from ...reading import CIF_SUFFIXES, XYZ_SUFFIXES
 from ...refusal import Refused
 from ..atoms.crystal import Crystal
 from .document import blocks_of, text_of_file
 from .given import bounded_cell, crystal_of_atoms
 from .poscar import as_ase_reads
 from .structure import read_crystal
-
-XYZ_SUFFIXES = (".xyz", ".extxyz")
 
 
 @dataclass(frozen=True)
