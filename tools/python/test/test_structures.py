@@ -62,6 +62,15 @@ class Options(unittest.TestCase):
         self.assertEqual({name for name, kind in get_type_hints(StructureOptions).items() if kind is bool}, set(SWITCHES))
         self.assertEqual(set(CONVENTION_NAMES), {*CONVENTIONS, AUTO})
 
+    def test_options_without_an_effect_beside_another_are_refused(self):
+        for options in ({"bonds": "file", "lengths": {"Na-Cl": 3.0}}, {"bonds": "file", "hydrogen_bonds": True},
+                        {"bonds": "file", "mode": "intermetallic"}, {"mode": "zeolite", "keep_ions": True},
+                        {"mode": "intermetallic", "hydrogen_bonds": True}):
+            with self.assertRaisesRegex(NotAnOption, "has no effect with"):
+                read(ROCK_SALT, **options)
+        read(ROCK_SALT, bonds="both", lengths={"Na-Cl": 3.0}, mode="intermetallic", keep_ions=True)
+        read(ROCK_SALT, bonds="file", lengths={}, mode="zeolite", keep_ions=False)
+
     def test_elements_are_whole_symbols(self):
         self.assertEqual({net.vertices for net in read(ROCK_SALT, leave_out="N")}, {net.vertices for net in read(ROCK_SALT)})
         for asked in ("Na", {"Na"}, ("Na",), ["Na"], "Na,F", frozenset(("Na",))):

@@ -18,7 +18,7 @@ from typing import TYPE_CHECKING
 from ..command_line import add_switches, parser_of, whole_number
 from ..errors import NotAnOption
 from ..files import telling_text
-from ..options import CHOICES, SWITCHES, elements_of, lengths_of, twice_given
+from ..options import CHOICES, SWITCHES, elements_of, lengths_of, told_idle, twice_given
 from ..progress import Progress
 from ..side_by_side import processors
 
@@ -68,6 +68,8 @@ def words() -> argparse.Namespace:
     asked = parser.parse_args()
     if pair := twice_given(asked.bond):
         parser.error(f"--bond gives {pair} several lengths")
+    if idle := told_idle({**vars(asked), "lengths": asked.bond}):
+        parser.error(idle)
     return asked
 
 

@@ -24,7 +24,7 @@ from ..progress import Progress
 from ..errors import CrystalNetsError, ProgramFailed, in_words
 from ..files import write_whole
 from ..reading import SUFFIXES
-from ..options import CHOICES, SWITCHES, twice_given
+from ..options import CHOICES, SWITCHES, option_word, told_idle, twice_given
 from ..side_by_side import bind_programs, end_with_parent, processors
 from .join import FILES, join
 from .parquet import need_pyarrow, write_parquet
@@ -88,6 +88,8 @@ def words() -> argparse.Namespace:
         parser.error(f"--bond gives {pair} several lengths")
     if asked.leave_out is not None and not asked.leave_out.replace(",", " ").split():
         parser.error(f"--leave-out {asked.leave_out!r} is not as Na,Cl")
+    if idle := told_idle({**vars(asked), "lengths": asked.bond}):
+        parser.error(idle)
     _check_together(parser, asked)
     return asked
 
@@ -162,8 +164,7 @@ def _place(settings: Settings) -> str:
 
 def option_words(options: dict[str, Any]) -> dict[str, Any]:
     """The options of structures by the words of the command line, with their values."""
-    named = {"lengths": "--bond"}
-    return {named.get(name, "--" + name.replace("_", "-")): value for name, value in options.items()}
+    return {option_word(name): value for name, value in options.items()}
 
 
 def words_of(settings: Settings) -> dict[str, Any]:
