@@ -320,6 +320,7 @@ class Table(FolderTest):
                                     ([self.source, self.result, "--archive", self.source], 3, "archive"),
                                     ([self.source, self.result, "--bond", "Si-O=1", "--bond", "O-Si=2"], 2, "O-Si several lengths"),
                                     ([self.source, self.result, "--leave-out", ","], 2, "is not as Na,Cl"),
+                                    ([self.source], 3, "is a file; the FOLDER"), ([self.source, self.source], 3, "is a file; the FOLDER"),
                                     ([1, 2, 3], 2, "FOLDER")):
             done = run(NET_TABLE, *words, status=status)
             self.assertIn(word, done.stderr.decode(), words)

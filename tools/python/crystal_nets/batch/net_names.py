@@ -64,7 +64,7 @@ def check_archive(archive: Path) -> None:
     if done.returncode != 0:
         told = done.stdout.split(b"\n")[0].decode(errors="replace")
         status = done.returncode if done.returncode > 0 else 128 - done.returncode
-        raise ArchiveRefused(status, f"{archive}: net_tool duplicates ended with {status}: {told}")
+        raise ArchiveRefused(status, f"{archive.resolve()}: net_tool duplicates ended with {status}: {told}")
 
 
 def main() -> int:

@@ -39,7 +39,7 @@ EPILOG = """exit status: 0 each net has a key; 1 some net has none; 2 usage; 3 n
 ended from outside; 75 a file of the source cannot be read now, or for lack of a package of Python, and the same command
 tries again; else that of net_tool.
 NET_TOOL is the program; where it is not set, the one of this installation or repository, or net_tool on the path.
-example: net_table structures results --jobs 4 --archive archives"""
+example: net_table structures results --jobs 4"""
 SOME_REFUSED, USAGE, FAILED = 1, 2, 3
 MOST_SECONDS = 1_000_000  # of a net
 TRY_AGAIN = 75  # EX_TEMPFAIL of sysexits.h
@@ -252,6 +252,8 @@ def archive_of(asked: argparse.Namespace) -> Archive | None:
 def make_table(asked: argparse.Namespace) -> int:
     folder = asked.paths[-1]
     work = folder / "work"
+    if folder.exists() and not folder.is_dir():
+        raise Failed(f"{folder} is a file; the FOLDER for the table stands after the SOURCE")
     if asked.part:
         plan = planned(asked, folder, work)
         numbers = list(range(asked.part[0], len(plan.pieces) + 1, asked.part[1]))
