@@ -488,7 +488,7 @@ class Completion(FolderTest):
         return set(done.stdout.decode().split("\n")) - {""}
 
     def test_commands_options_and_files(self):
-        for name in ("a net.cgd", "b.archive", "c.txt"):
+        for name in ("a net.cgd", "b.archive", "c.txt", "d.arc"):
             (self.folder / name).touch()
         (self.folder / "deep").mkdir()
         self.assertEqual(self.complete("net_tool", "i"), {"identify"})
@@ -499,6 +499,7 @@ class Completion(FolderTest):
         self.assertEqual(self.complete("net_tool", "add", "--"), {"--archive", "--name"})
         self.assertEqual(self.complete("net_tool", "identify", "--archive", ""), {"b.archive", "deep"})
         self.assertEqual(self.complete("net_tool", "identify", "--archive", "=", "b"), {"b.archive"})
+        self.assertEqual(self.complete("net_tool", "union", ""), {"b.archive", "d.arc", "deep"})
         self.assertEqual(self.complete("net_tool", "key", "c"), {"c.txt"})
         self.assertEqual(self.complete("net_tool", "workload", ""), set())
 
