@@ -569,4 +569,7 @@ def main() -> int:
 if __name__ == "__main__":
     if sys.argv[1:] in (["-h"], ["--help"]):
         sys.exit(print(__doc__))
+    if sys.argv[1:]:
+        print("write_nets.py: it takes no words but --help", file=sys.stderr)
+        sys.exit(2)
     sys.exit(main())

@@ -141,7 +141,7 @@ def run_folder(folder: Path) -> Quiet:
         else:
             tests.run(result)
     sys.path.remove(str(folder))
-    name = str(folder.relative_to(TOP))
+    name = os.path.relpath(folder, TOP)
     for test, trace in result.failures + result.errors:
         print(f"{name}: failed: {test.id()}\n{trace}")
     for reason in sorted({reason for _, reason in result.skipped}):

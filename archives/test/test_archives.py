@@ -111,6 +111,17 @@ class Recipes(FolderTest):
         for name in ("common.archive", "zeolites.archive", "zeolites.refused", "wide.cgd", "wide.index"):
             self.assertEqual((self.folder / "archives" / name).read_bytes(), (ARCHIVES / name).read_bytes(), name)
 
+    def test_words_without_a_form(self):
+        """Nothing is written, and the status is 2."""
+        for words, told in ((("--sources",), "asks for a folder"), (("--sources", "absent"), "asks for a folder"), (("--other",), "no option --other"),
+                            (("a", "b"), "usage"), (("a", "--sources", self.folder), "usage")):
+            self.assertIn(told, run(ARCHIVES / "make", *words, status=2).stderr.decode(), words)
+        self.assertIn(b"is not there", run(ARCHIVES / "make", self.folder / "absent", status=1).stderr)
+        self.assertIn(b"writes the archives", run(ARCHIVES / "make", "--sources", self.folder, "--help").stdout)
+        self.assertIn(b"no option --other", run(ARCHIVES / "take_rcsr", "--other", status=2).stderr)
+        need_modules("numpy", "gemmi")
+        self.assertEqual(run(ARCHIVES / "write_nets.py", "--other", status=2).stdout, b"")
+
     def write_nets(self):
         need_modules("numpy", "gemmi")
         sys.path.insert(0, str(ARCHIVES))

@@ -45,12 +45,21 @@ install -m 644 -- "$top"/archives/*.archive "$top"/archives/wide.cgd "$top"/arch
     "$share/archives"
 install -m 755 -- "$top/archives/take_rcsr" "$share/archives"
 install -m 644 -- "$top"/examples/*.c?? "$top"/examples/*.maps "$top"/examples/*.ipynb "$top/examples/README.md" "$share/examples"
-install -m 644 -- "$top/README.md" "$top/docs/FORMATS.md" "$to/share/doc/net_tool"
-install -D -m 644 -- "$top/tools/install/net_tool.bash" "$to/share/bash-completion/completions/net_tool"
+install -m 644 -- "$top/README.md" "$top/CHANGELOG.md" "$top/docs/FORMATS.md" "$to/share/doc/net_tool"
+completions=$to/share/bash-completion/completions
+install -D -m 644 -- "$top/tools/install/net_tool.bash" "$completions/net_tool"
+install -m 644 -- "$top/tools/install/tools.bash" "$completions/cif2cgd"
+for command in $commands; do
+    name=$(basename -- "$command")
+    case $name in
+    cif2cgd | archive_files | name_nets | take_rcsr) ;; # the first has the file, the others are no commands of Python
+    *) ln -sf -- cif2cgd "$completions/$name" ;;
+    esac
+done
 
 # what `net_tool --version` tells
 {
-    echo "net_tool, commit $(commit_of_sources)"
+    echo "net_tool $(version_of_sources), commit $(commit_of_sources)"
     echo "toolchain: $(cat "$top/TOOLCHAIN")"
     made_of=$(sed -n 1p "$program.sum" 2>/dev/null) || :
     if [ -z "$made_of" ]; then

@@ -32,7 +32,7 @@ _net_tool() {
         cover) mapfile -t COMPREPLY < <(compgen -W "--cell" -- "$word") ;;
         esac
     elif [[ $command == union ]]; then
-        _net_tool_files "$word" archive
+        _net_tool_files "$word" archive arc
     elif [[ $command == verify ]]; then
         _net_tool_files "$word" maps
     elif [[ " check place key identify components cover same add " == *" $command "* ]]; then
@@ -40,11 +40,13 @@ _net_tool() {
     fi
 }
 
-# files with the ending, and folders on the way to them; any file where there is none
+# files with one of the endings, and folders on the way to them; any file where there is none
 _net_tool_files() {
+    local word=$1 ending
+    shift
     compopt -o filenames 2>/dev/null
-    mapfile -t COMPREPLY < <(compgen -f -X "!*.$2" -- "$1"; compgen -d -- "$1")
-    [ ${#COMPREPLY[@]} -gt 0 ] || mapfile -t COMPREPLY < <(compgen -f -- "$1")
+    mapfile -t COMPREPLY < <(for ending in "$@"; do compgen -f -X "!*.$ending" -- "$word"; done; compgen -d -- "$word")
+    [ ${#COMPREPLY[@]} -gt 0 ] || mapfile -t COMPREPLY < <(compgen -f -- "$word")
 }
 
 complete -F _net_tool net_tool

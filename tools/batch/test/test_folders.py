@@ -118,6 +118,19 @@ class Archives(FolderTest):
 
 
 class Files(FolderTest):
+    def test_name_nets_tells_what_is_no_archive_and_what_is_no_file(self):
+        """Before anything is done, and by the names that were given."""
+        need_program()
+        sql, other = TOP / "examples/sql.cgd", TOP / "examples/quartz.cif"
+        damaged = self.folder / "damaged.archive"
+        damaged.write_text("net_archive 2\nx\n")
+        for words, status, told in (((sql, other), 1, f"name_nets: {other} is no archive; nets are named of one FILE"),
+                                    ((self.folder,), 1, f"name_nets: {self.folder} is a folder; net_table makes"),
+                                    ((sql, damaged), 5, f"net_names: {damaged}: net_tool duplicates ended with 5: archive refused 1 BadLine")):
+            done = run(BATCH / "name_nets", *words, status=status)
+            self.assertEqual((done.stdout, done.stderr.count(b"\n")), (b"", 1))
+            self.assertIn(told, done.stderr.decode())
+
     def test_names_of_files_without_a_net_or_with_a_dash(self):
         need_program()
         (self.folder / "-x.cgd").write_bytes(SQUARE % b"dash")

@@ -320,6 +320,7 @@ class Table(FolderTest):
                                     ([self.source, self.result, "--archive", self.source], 3, "archive"),
                                     ([self.source, self.result, "--bond", "Si-O=1", "--bond", "O-Si=2"], 2, "O-Si several lengths"),
                                     ([self.source, self.result, "--leave-out", ","], 2, "is not as Na,Cl"),
+                                    ([self.source], 3, "is a file; the FOLDER"), ([self.source, self.source], 3, "is a file; the FOLDER"),
                                     ([1, 2, 3], 2, "FOLDER")):
             done = run(NET_TABLE, *words, status=status)
             self.assertIn(word, done.stderr.decode(), words)
@@ -328,6 +329,17 @@ class Table(FolderTest):
         self.assertIn(b"changed since", self.make(status=3).stderr)
         (self.result / "work/plan").write_text("{}\n")
         self.assertIn(b"no plan", self.make(status=3).stderr)
+
+    def test_options_of_structures_without_a_structure_are_told(self):
+        words = ("--convention", "pe", "--bond", "Si-O=1.9", "--keep-ions", "--plan")
+        told = run(NET_TABLE, *words, self.source, self.result).stderr.decode()
+        self.assertEqual(told, "net_table: without effect, since the source has no structures: --keep-ions, --convention, --bond\n")
+        self.assertEqual(run(NET_TABLE, "--plan", self.source, self.folder / "plain").stderr, b"")
+        structures = self.folder / "structures"
+        structures.mkdir()
+        for file in (TOP / "examples/quartz.cif", TOP / "examples/dia.cgd"):
+            shutil.copy(file, structures)
+        self.assertEqual(run(NET_TABLE, *words, structures, self.folder / "mixed").stderr, b"")
 
     def test_options_that_a_plan_or_another_word_leaves_without_effect(self):
         run(NET_TABLE, "--plan", "--keys-alone", "--seconds", 900, "--bond", "Si-O=1.9", "--leave-out", "H", self.source, self.result)

@@ -101,6 +101,28 @@ class Doubts(FolderTest):
 
     TEXT = CRYSTAL.format(name="NAME y\n", node="B").replace("8", "6").encode()
 
+    def test_a_block_that_begins_before_the_end_of_another_is_told(self):
+        """The program takes both for one, and refuses it: so do all tools, and say where."""
+        need_program()
+        square = "PERIODIC_GRAPH\nNAME {}\nEDGES\n1 1 0 1\n1 1 1 0\n"
+        text = f"{square.format('a')}# x\n periodic_graph # y\n{square.format('b').partition(chr(10))[2]}END\n{square.format('c')}END\n"
+        told = "line 7: PERIODIC_GRAPH begins before the END of this block: both are read as one"
+        self.assertEqual(told_of(text), [(DROPPED, f'x: line 1 "a": {told}')])
+        both, last = read(text)
+        self.assertEqual((both.notes, last.notes), ((told,), ()))
+        with self.assertRaisesRegex(NotANet, "line 7 of the block is no row"):
+            both.edges
+        file = self.folder / "x.cgd"
+        file.write_text(text)
+        done = run(COMMAND, "--quiet", file)
+        self.assertEqual((done.stdout.decode(), done.stderr.decode()), (text, f'{file}: line 1 "a": {told}\n'))
+        for command, status in ((TOOLS / "cgd2net/make_archives", 1), (TOOLS / "batch/split_nets", 0)):
+            folder = (self.folder / "made",) if status else ()
+            said = run(command, *folder, file, *([] if folder else [self.folder / "pieces"]), status=status).stderr.decode()
+            self.assertIn(f'{file}: line 1 "a": {told}\n', said)
+        self.assertEqual((self.folder / "pieces/p00001.cgd").read_text(), text)
+        self.assertIn("malformed line=7 4 UnknownField", (self.folder / "made.refused").read_text())
+
     def test_quiet_tells_them(self):
         loud, quiet = (run(COMMAND, *words, "-", stdin=self.TEXT).stderr for words in ((), ("--quiet",)))
         self.assertIn(b"edges are by distance, and the net is not connected", quiet)

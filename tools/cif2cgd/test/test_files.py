@@ -152,6 +152,14 @@ class Words(FolderTest):
         for words in ([], ["--bond", "Cs=3", self.file], ["--bond", "Xx-O=3", self.file], ["--nonsense", self.file],
                       ["--leave-out", "CS", self.file], ["--bond", "Cs-Cl=3", "--bond", "Cl-Cs=4", self.file]):
             run(COMMAND, *words, status=2)
+        for words, told in ((["--bonds", "file", "--bond", "Cs-Cl=3"], "--bond has no effect with --bonds file"),
+                            (["--bonds", "file", "--hydrogen-bonds"], "--hydrogen-bonds has no effect with --bonds file"),
+                            (["--mode", "intermetallic", "--bonds", "file"], "--mode has no effect with --bonds file"),
+                            (["--mode", "intermetallic", "--hydrogen-bonds"], "--hydrogen-bonds has no effect with --mode intermetallic"),
+                            (["--keep-ions", "--mode", "zeolite"], "--keep-ions has no effect with --mode zeolite")):
+            self.assertIn(told, run(COMMAND, *words, self.file, status=2).stderr.decode())
+            self.assertIn(told, run(TOOLS / "batch/net_table", *words, self.file, self.folder / "table", status=2).stderr.decode())
+        self.assertIn(b"not allowed with", run(COMMAND, "--clusters", "--convention", "pe", "x.cif", status=2).stderr)
 
     def test_atoms_too_near_are_refused(self):
         self.file.write_text(CAESIUM_CHLORIDE.replace("0.5 0.5 0.5", "0.2 0 0"))

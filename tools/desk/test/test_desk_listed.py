@@ -8,7 +8,8 @@ from testing import TOP
 
 need_desk()
 from crystal_nets import Net, read  # noqa: E402
-from crystal_nets.desk.listed import NOT_THERE, listed  # noqa: E402
+from crystal_nets.desk.listed import listed  # noqa: E402
+from crystal_nets.topology.listed import NOT_THERE  # noqa: E402
 
 NETS = {net.name.split(",")[0]: net for net in read(TOP / "archives/common.cgd")}
 SIX_RINGS = ".".join(["6(2)"] * 6)
@@ -26,7 +27,11 @@ class Listed(unittest.TestCase):
 
     def test_nets_of_which_there_is_none(self):
         woven = Net([(1, 1, (2, 0)), (1, 1, (0, 1))])
-        self.assertEqual([listed(net) for net in (woven, Net.refused("nothing"))], [{"reason": NOT_THERE}] * 2)
+        block = Net.from_block(b"PERIODIC_GRAPH\nEDGES\n1 1 0 x\nEND\n")
+        lengths = Net([(1, 1, (1, 0)), (1, 1, (0, 1, 0))])
+        for net, reason in ((woven, NOT_THERE), (Net.refused("nothing"), "nothing"), (lengths, "its shifts have several lengths"),
+                            (block, "line 3 of the block is no row: '1 1 0 x'")):
+            self.assertEqual(listed(net), {"reason": reason})
 
 
 if __name__ == "__main__":

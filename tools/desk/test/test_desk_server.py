@@ -21,12 +21,12 @@ from mutants import mutant
 from testing import IS_LONG, TOP
 
 need_desk()
-from crystal_nets.desk.application import CHOICES, FILES, MOST_FIELDS, application  # noqa: E402
+from crystal_nets.desk.application import FILES, MOST_FIELDS, application  # noqa: E402
 from crystal_nets.desk.connections import MOST_STRANGERS, SECONDS_TO_ASK, Connections  # noqa: E402
 from crystal_nets.desk.files import FITTING, MOST_BYTES, MOST_NETS  # noqa: E402
 from crystal_nets.desk.guard import MOST_SENT, Guard  # noqa: E402
 from crystal_nets.desk.questions import AT_ONCE, MOST_OF_A_BLOCK  # noqa: E402
-from crystal_nets.options import CONVENTION_NAMES as CONVENTIONS  # noqa: E402
+from crystal_nets.options import CONVENTION_NAMES as CONVENTIONS, SWITCHES  # noqa: E402
 from crystal_nets.structures.nets.choice import Options  # noqa: E402
 from crystal_nets.structures.units.conventions import AUTO, CONVENTIONS as OF_CIF2CGD  # noqa: E402
 from flask import Request  # noqa: E402
@@ -326,10 +326,10 @@ class WhatIsSent(WithServer):
 
     def test_words_agree_with_those_of_cif2cgd(self):
         self.assertEqual(list(CONVENTIONS), [*OF_CIF2CGD, AUTO])
-        self.assertLessEqual(set(CHOICES), set(Options.__dataclass_fields__))
+        self.assertLessEqual(set(SWITCHES), set(Options.__dataclass_fields__))
         page = FILES[""][0].read_text()
         self.assertEqual(re.findall(r'<option value="([^"]+)"', page[:page.index("</select>")]), [FITTING, *CONVENTIONS])
-        self.assertEqual(re.findall(r'type="checkbox" value="([^"]+)"', page), list(CHOICES))
+        self.assertEqual(re.findall(r'type="checkbox" value="([^"]+)"', page), list(SWITCHES))
 
 
 class Bombs(WithServer):

@@ -1,6 +1,7 @@
 """Installing: that what is installed works where it was put, alone, and as a package."""
 
 import os
+import random
 import re
 import shlex
 import shutil
@@ -11,6 +12,8 @@ import time
 from pathlib import Path
 
 from testing import PROGRAM, TOOLS, TOP, FolderTest, ends_soon, long_test, need_commands, need_modules, need_program, run
+
+import crystal_nets.commands
 
 INSTALL = TOOLS / "install"
 PAGES = [TOP / "docs/net_tool.1", *sorted(TOOLS.glob("*.1")), *sorted(TOOLS.glob("*/*.1"))]
@@ -66,14 +69,77 @@ class Installed(FolderTest):
             more = self.told(f"net_tool help {command}", 0)[0].decode()
             self.assertRegex(more, rf"^{command} .*\n(.*\n)?Status 0")
             self.assertEqual(self.told(f"net_tool {command} --help", 0)[0].decode(), more)
+            for words in (f"{command} x --help", f"{command} --archive x -h --name y"):
+                self.assertEqual(self.told(f"net_tool {words}", 0)[0].decode(), more)
         self.assertEqual(self.told("net_tool help", 0)[0].decode(), listed)
         self.assertEqual(self.told("net_tool help keys", 2)[0], b"")
+        self.assertIn("takes one command", self.told("net_tool help check key", 2)[1])
         version = self.told("net_tool --version", 0)[0].decode()
         self.assertIn((TOOLS.parent / "TOOLCHAIN").read_text().strip(), version)
-        self.assertRegex(version, r"^net_tool, commit ([0-9a-f]{12}|not known)")
+        self.assertRegex(version, rf"^net_tool {re.escape(crystal_nets.__version__)}, commit ([0-9a-f]{{12}}|not known)")
         output, said = self.told("net_tool", 2)
         self.assertIn(b"usage: net_tool COMMAND", output)
-        self.assertIn("net_tool help", said)
+        self.assertEqual(said, "net_tool: 'net_tool help' lists the commands\n")
+
+    def test_words_without_a_form_are_explained(self):
+        (self.folder / "x.cif").touch()
+        for words, reason in (
+                ("identfy x", "there is no command identfy"), (f"{self.folder}/x.cif", "is a file, and a command stands before it"),
+                ("key x -a y", "there is no option -a"), ("check x --archive y", "check takes no --archive"),
+                ("cover x", "cover asks for --cell"), ("cover x --cell -1,0,0,1", "given as --cell=VALUE"),
+                ("cover x --cell=2,2,2", "4 or 9 whole numbers"), ("cover x --cell=1,0,0,-0", "4 or 9 whole numbers"),
+                ("key x y", "one FILE, and y is a second"), ("key -- x --help", "one FILE, and --help is a second"),
+                ("duplicates x", "duplicates does not take x"), ("union x", "union asks for --archive"),
+                ("add x --name a --name=b", "--name is given twice"), ("add x --name=", "the value of --name is empty"),
+                ("add ''", "an argument is empty"), ("add --archive -", "cannot both be standard input"),
+                ("workload", "asks for N"), ("workload 4097", "N is from 1 to 4096"), ("key 'a\\nb' 'c\\nd'", "'c\\nd' is a second")):
+            output, said = self.told(f"net_tool {words}", 2)
+            self.assertTrue(output.startswith(b"usage: "), words)
+            self.assertIn(reason, said, words)
+            self.assertEqual(said.count("\n"), 1, words)
+
+    def test_a_reason_is_told_of_just_those_words_that_have_no_form(self):
+        pieces = ("check", "cover", "add", "duplicates", "x", "-", "", "--", "--cell", "--cell=1,0,0,500", "--cell=1,0,0,501",
+                  "--archive", "--archive=-", "--name=y", "-x")
+        chosen = random.Random(5)
+        script = f'. {self.share}/tools/words.sh; positional_words "$@"; fault_of_words "$@"'
+        refused = 0
+        for _ in range(200):
+            words = [chosen.choice(pieces[:4]), *chosen.choices(pieces, k=chosen.randrange(4))]
+            reason = run("sh", "-c", script, "sh", *words).stdout.decode()
+            is_refused = run(PROGRAM, *words, status=None).returncode == 2
+            self.assertEqual(reason.count("\n"), is_refused, words)
+            refused += is_refused
+        self.assertTrue(80 < refused < 190, refused)
+
+    def test_a_file_that_cannot_be_read_is_named(self):
+        dia = self.share / "examples/dia.cgd"
+        for words, reason in ((f"key {self.folder}/a\\\\nb", "a\\nb' is not there"), (f"key {self.folder}", "is a folder, and a file is read; net_table"),
+                              (f"identify {dia} --archive {self.share}/archives", "archives is a folder, and a file is read; name_nets"),
+                              (f"identify {dia} --archive=absent", "absent is not there")):
+            self.assertIn(reason, self.told(f"net_tool {words}", 3)[1], words)
+
+    def test_what_is_no_archive_is_told(self):
+        examples = self.share / "examples"
+        for file, word in (("dia.cgd", "net_tool add"), ("embedded.cgd", "make_archives"), ("quartz.cif", "is no archive")):
+            output, said = self.told(f"net_tool identify {examples}/dia.cgd --archive {examples}/{file}", 5)
+            self.assertEqual((output, said.count("\n")), (b"archive refused 6 Version line=1\n", 1))
+            self.assertIn(word, said)
+        damaged = self.folder / "damaged.archive"
+        damaged.write_text("net_archive 2\nx\n")
+        self.assertEqual(self.told(f"net_tool duplicates --archive {damaged}", 5)[1], "")
+
+    def test_a_block_without_its_end_is_told(self):
+        nets = self.folder / "x.cgd"
+        block = "PERIODIC_GRAPH\nNAME a\nEDGES\n1 1 0 1\n1 1 1 0\n"
+        for text, told in ((f"{block}END\n{block}", False), (f"# x\n{block}{block}END\n", True), (f"{block}#x\n crystal #x\r\nEND\n", True),
+                           (f"{block}END x\nCRYSTAL\nEND\nNET\nEND\n", False), (f"{block}net x\nEND\n", False)):
+            nets.write_text(text)
+            said = self.told(f"net_tool check {nets}", 1)[1]
+            self.assertEqual("before the END of the one of line" in said, told, text)
+            self.assertLessEqual(said.count("\n"), 1)
+        nets.write_text(f"# x\n{block}{block}END\n")
+        self.assertIn("line 7 opens a block before the END of the one of line 2:", self.told(f"net_tool check {nets}", 1)[1])
 
     def test_each_command_has_help_and_does_nothing_else_then(self):
         need_modules("gemmi", "numpy", "scipy")
@@ -82,6 +148,24 @@ class Installed(FolderTest):
             self.assertEqual(done.returncode, 0, command.name)
             self.assertIn(command.name.encode(), done.stdout + done.stderr)
         self.assertEqual(list(self.folder.iterdir()), [])
+
+    def test_each_command_of_python_tells_the_version(self):
+        for name in crystal_nets.commands.HOMES:
+            self.assertEqual(self.told(f"{name} --version", 0), (f"{name} (net_tool) {crystal_nets.__version__}\n".encode(), ""))
+
+    def test_help_needs_no_package(self):
+        """Where the packages of Python are missing that a command works with, it says so of its work."""
+        crystals = str(self.share / "examples/embedded.cgd")
+        works = {"cgd2net": [crystals], "make_archives": ["a", crystals], "draw_nets": ["--svg", "a"]}
+        for name, packages in crystal_nets.commands.PACKAGES.items():
+            code = (f"import sys; sys.modules.update(dict.fromkeys({packages.replace('python3-', '').split()}))\n"
+                    f"sys.argv = [{name!r}, *sys.argv[1:]]\nimport crystal_nets.commands; crystal_nets.commands.main()")
+            for words, status in ((["--help"], 0), (works.get(name, ["a"]), crystal_nets.commands.FAILED.get(name, 1))):
+                done = run("sh", "-c", 'cd "$0" && exec "$@"', self.folder, "/usr/bin/python3", "-B", "-c", code, *words,
+                           PYTHONPATH=str(self.module), status=status)
+                told = (done.stdout if not status else done.stderr).decode()
+                self.assertIn(f"usage: {name}" if not status else f"apt-get install {packages}", told)
+                self.assertNotIn("Traceback", told)
 
     def test_examples_are_all_installed(self):
         names = {path.name for path in (TOOLS.parent / "examples").iterdir()}
@@ -191,6 +275,49 @@ class Installed(FolderTest):
         pages = {path.name.removesuffix(".1.gz") for path in (self.prefix / "share/man/man1").iterdir()}
         self.assertLessEqual({path.name for path in (self.prefix / "bin").iterdir()}, pages)
 
+    def test_numbers_that_are_none_are_told(self):
+        """By what they may be, and by no name of the code."""
+        need_modules("gemmi", "numpy", "scipy")
+        for words in ("cif2cgd --jobs {} x", "net_table --jobs {} x y", "net_table --seconds {} x y", "draw_nets --page x --jobs {}",
+                      "draw_nets --page x --only {}", "draw_nets --png x --width {}", "net_gallery --jobs {} x", "split_nets --blocks {} x y",
+                      "split_nets --bytes {} x y", "key_piece --seconds {} x 1", "net_desk --port {}", "net_desk --seconds {}",
+                      "net_desk --memory {}", "net_rows --blocks-before {}", "net_rows --lines-before {}"):
+            for value in ("x", "-1", "1.5", "9" * 5000, "٣"):
+                said = self.told(words.replace("{}", f"'{value}'"), 2)[1]
+                self.assertRegex(said, r"error: argument --\w[\w-]*: ('.*' is not from \d+ to \d+|expected one argument)\n$", (words, value[:9]))
+
+    def test_completion_of_the_tools(self):
+        """Each command in Python has its options completed, by the file that bash looks for under its name."""
+        need_commands("bash")
+        completions = self.prefix / "share/bash-completion/completions"
+        self.assertEqual({path.name for path in completions.iterdir()}, {"net_tool", *crystal_nets.commands.HOMES})
+        for name in crystal_nets.commands.HOMES:
+            script = (f"source {completions / name}; COMP_WORDS=({name} a --); COMP_CWORD=2; complete -p {name} >&2; "
+                      f"_net_tools {name}; printf '%s\\n' \"${{COMPREPLY[@]}}\"")
+            done = run("bash", "-c", script, PATH=self.path)
+            self.assertIn(f"-F _net_tools {name}", done.stderr.decode())
+            self.assertLessEqual({"--help", "--version"}, set(done.stdout.decode().split()))
+        done = run("bash", "-c", f"source {completions / 'cif2cgd'}; COMP_WORDS=(cif2cgd --keep); COMP_CWORD=1; _net_tools cif2cgd; echo $COMPREPLY",
+                   PATH=self.path)
+        self.assertEqual(done.stdout, b"--keep-ions\n")
+
+    def test_the_examples_of_the_page_run(self):
+        """As they are printed, one after the other, in the folder that is installed."""
+        page = (TOP / "docs/net_tool.1").read_text().partition(".Sh EXAMPLES\n")[2].partition(".Sh ")[0]
+        commands = re.findall(r"(?m)^(?:\.Dl )?\$ (.+)$", page)
+        self.assertGreater(len(commands), 5)
+        folder = self.folder / "net_tool"
+        shutil.copytree(self.share, folder, ignore=shutil.ignore_patterns("tools"))
+        for command in commands:
+            output, said = self.told(f"cd {folder} && {command}", 0)
+            self.assertEqual(said, "", command)
+        self.assertIn(b'group "sample A" "mine"', output + self.told(f"cd {folder} && net_tool duplicates --archive more.net", 0)[0])
+
+    def test_what_can_be_run_is_a_script_or_the_program(self):
+        for path in self.root.rglob("*"):
+            if path.is_file() and os.access(path, os.X_OK):
+                self.assertIn(path.read_bytes()[:2], (b"#!", b"\x7fE"), path)
+
     def test_no_file_of_tests_is_installed(self):
         self.assertEqual([path for path in self.root.rglob("*test*")], [])
 
@@ -230,6 +357,19 @@ class Scripts(FolderTest):
                 self.assertGreater(len(done.stdout), 80, script)
         self.assertEqual(list(self.folder.iterdir()), [])
 
+    def test_the_tests_of_some_folders(self):
+        """tools/test runs those of the folders that are given, with the program that is given."""
+        for name in ("a", "b"):
+            (self.folder / name / "test").mkdir(parents=True)
+            (self.folder / name / f"test/test_{name}.py").write_text(
+                "import unittest\nfrom testing import IS_LONG, PROGRAM\nclass One(unittest.TestCase):\n"
+                f"    def test_one(self):\n        self.assertEqual((PROGRAM, IS_LONG), ({str(self.folder / 'program')!r}, True))\n")
+        for words, passed in (((self.folder / "a",), 1), ((self.folder / "a/test", self.folder / "b"), 2)):
+            done = run(TOOLS / "test", "--long", self.folder / "program", *words)
+            self.assertIn(f"tools: {passed} passed, 0 failed, 0 skipped\n", done.stdout.decode())
+        self.assertIn("1 failed", run(TOOLS / "test", self.folder / "b", self.folder / "program", status=1).stdout.decode())
+        self.assertIn(b"no option --other", run(TOOLS / "test", "--other", status=2).stderr)
+
     def test_pages_have_each_option(self):
         need_modules("gemmi", "numpy", "scipy", "flask")
         for page in PAGES[1:]:
@@ -238,7 +378,7 @@ class Scripts(FolderTest):
                 script, = [path for folder in ("tools", "archives") for path in TOP.glob(f"{folder}/**/{name}")
                            if path.is_file()] or [None]
                 told = run(script, "--help").stdout.decode()
-                for option in set(re.findall(r"(?m)^  +(?:-\w, )?--([a-z-]+)", told)) - {"help"}:
+                for option in set(re.findall(r"(?m)^  +(?:-\w, )?--([a-z-]+)", told)) - {"help", "version"}:
                     self.assertRegex(text, rf"Fl -{option}\b", f"{name} --{option}")
 
 
@@ -258,6 +398,24 @@ class InFront(FolderTest):
         self.assertIn("no key lines, but blocks PERIODIC_GRAPH", said)
         self.assertEqual(run(self.folder / "prefix/bin/net_tool", "union", "--archive=x",
                              TOOLS.parent / "archives/common.archive").stderr, b"")
+
+    def test_a_union_of_a_pipe(self):
+        """What comes by a pipe is told as a file is, and reaches the program whole."""
+        text = b"PERIODIC_GRAPH\nEND\n" * 900_000  # more than the program reads
+        self.run_program('cat >"$0.read"; exit 1', "union", "--archive", "x", status=1)
+        for words in (("union", "--archive", "x"), ("union", "-", "--archive=x")):
+            done = run(self.folder / "prefix/bin/net_tool", *words, stdin=text, status=1)
+            self.assertIn(b"no key lines, but blocks PERIODIC_GRAPH", done.stderr)
+            self.assertEqual((self.folder / "prefix/lib/net_tool/net_tool.read").read_bytes(), text[:16_777_217])
+        self.assertEqual(run(self.folder / "prefix/bin/net_tool", "union", "--archive=x", stdin=b"key 2 1 1 1 0 1 1 0 1\nid x\nend\n",
+                             status=1).stderr, b"")
+
+    def test_a_union_of_a_pipe_leaves_no_file(self):
+        temporary = self.folder / "temporary"
+        temporary.mkdir()
+        self.run_program("cat", "union", "--archive", "x", status=0)
+        run(self.folder / "prefix/bin/net_tool", "union", "--archive", "x", stdin=b"id x\nend\n", TMPDIR=str(temporary))
+        self.assertEqual(list(temporary.iterdir()), [])
 
     def test_a_union_of_keys_in_several_lines(self):
         items = self.folder / "x.arc"
@@ -330,7 +488,7 @@ class Completion(FolderTest):
         return set(done.stdout.decode().split("\n")) - {""}
 
     def test_commands_options_and_files(self):
-        for name in ("a net.cgd", "b.archive", "c.txt"):
+        for name in ("a net.cgd", "b.archive", "c.txt", "d.arc"):
             (self.folder / name).touch()
         (self.folder / "deep").mkdir()
         self.assertEqual(self.complete("net_tool", "i"), {"identify"})
@@ -341,6 +499,7 @@ class Completion(FolderTest):
         self.assertEqual(self.complete("net_tool", "add", "--"), {"--archive", "--name"})
         self.assertEqual(self.complete("net_tool", "identify", "--archive", ""), {"b.archive", "deep"})
         self.assertEqual(self.complete("net_tool", "identify", "--archive", "=", "b"), {"b.archive"})
+        self.assertEqual(self.complete("net_tool", "union", ""), {"b.archive", "d.arc", "deep"})
         self.assertEqual(self.complete("net_tool", "key", "c"), {"c.txt"})
         self.assertEqual(self.complete("net_tool", "workload", ""), set())
 

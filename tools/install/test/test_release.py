@@ -2,6 +2,7 @@
 system stands in for the real one, which says of what words it was given."""
 
 import os
+import re
 import shutil
 import subprocess
 import tempfile
@@ -9,6 +10,8 @@ import time
 from pathlib import Path
 
 from testing import TOOLS, TOP, FolderTest, long_test, need_commands, run
+
+import crystal_nets
 
 AUTHOR = ("-c", "user.name=somebody", "-c", "user.email=somebody@example.org")
 NEEDED = ("sh", "dirname", "readlink", "cat", "sed", "cut", "sort", "sha256sum", "grep", "mkdir")  # no rt and no python3
@@ -32,6 +35,7 @@ class Release(FolderTest):
         cls.base = Path(tempfile.mkdtemp(prefix="net_tools_test.")) / "top"
         cls.addClassCleanup(shutil.rmtree, cls.base.parent, ignore_errors=True)
         shutil.copytree(TOP, cls.base, symlinks=True, ignore=leave_out)
+        cls.become("1.5")
         cls.sum = run("sh", "-c", f"top={cls.base}; . {cls.base}/tools/words.sh; sum_of_sources").stdout.decode()
         cls.at(cls.base)
         cls.git("init", "-q")
@@ -54,6 +58,14 @@ class Release(FolderTest):
     def note_built(cls, compiler: str = "by LLVM") -> None:
         cls.program.with_name("net_tool.sum").write_text(f"{cls.sum}{compiler}\n")
         cls.program.with_name("net_tool.gate").write_text(f"{cls.sum}7 passed, 0 failed\n")
+
+    @classmethod
+    def become(cls, version: str) -> None:
+        """Has the tree be of a version."""
+        for name, form, text in (("tools/python/crystal_nets/__init__.py", r'(?m)^__version__ = "[^"]*"', f'__version__ = "{version}"'),
+                                 ("CHANGELOG.md", r"(?m)\A(.*?\n)## .*$", rf"\g<1>## {version}")):
+            path = cls.base / name
+            path.write_text(re.sub(form, text, path.read_text(), count=1, flags=re.DOTALL * (name == "CHANGELOG.md")))
 
     @classmethod
     def git(cls, *words: str) -> None:
@@ -123,6 +135,19 @@ class Release(FolderTest):
         self.assertIn("skipped: the sources here are not those of the release", self.check())
         shutil.rmtree(self.top / "release")
         self.assertIn("skipped: there is no release", self.check())
+
+    def test_no_release_of_another_version(self):
+        shutil.rmtree(self.top / "release")
+        self.assertIn("VERSION is 1.6, and tools/python/crystal_nets/__init__.py has 1.5", self.make(1, "1.6"))
+        changes = self.top / "CHANGELOG.md"
+        changes.write_text(changes.read_text().replace("## 1.5", "## 1.6", 1))
+        self.commit("a heading")
+        self.assertIn("CHANGELOG.md begins with 1.6", self.make(1))
+        self.assertFalse((self.top / "release").exists())
+
+    def test_the_version_is_that_of_the_changes(self):
+        listed = re.search(r"(?m)^## (\S+)$", (TOP / "CHANGELOG.md").read_text())[1]
+        self.assertEqual(crystal_nets.__version__, listed)
 
     def test_no_release_of_what_the_gate_has_not_passed(self):
         shutil.rmtree(self.top / "release")

@@ -284,6 +284,14 @@ class Files(FolderTest):
 
     def test_words_without_a_form(self):
         self.draw(status=2)
+        for words, other in (("--title", "--page"), ("--width", "--png")):
+            self.assertIn(f"{words} has no effect without {other}".encode(), self.draw("--svg", self.folder, words, 7, status=2).stderr)
+
+    def test_a_net_that_the_report_has_not_is_told(self):
+        report = run(PROGRAM, "identify", TOP / "examples/dia.cgd").stdout
+        self.assertIn(b"the report has no net 2", self.draw("--svg", self.folder, "--only", 2, report=report, status=1).stderr)
+
+    def test_reports_that_cannot_be_drawn(self):
         self.draw("--page", self.folder / "page.html", report=b"no report\n", status=1)
         keys = run(PROGRAM, "key", COMMON).stdout
         self.assertIn(b"not of `net_tool identify`", self.draw("--svg", self.folder, report=keys, status=1).stderr)

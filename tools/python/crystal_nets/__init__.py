@@ -37,6 +37,7 @@ refusal     why a structure or a block gives no net
 
 What the tools share:
 commands      the commands by their names, as the scripts of the tools start them
+command_line  what the words of all commands have, as --version
 progress      how far some work is, on a terminal
 files         paths, and files that are written whole or not at all
 side_by_side  work in several processes
@@ -78,7 +79,7 @@ if TYPE_CHECKING:
     from .tables.columns import read_table
     from .twins import without_twins
 
-__version__ = "0.1"
+__version__ = "1.4"  # of all tools and of the release, as CHANGELOG.md begins
 __all__ = ["Answer", "Answers", "Archive", "By", "Component", "Components", "Cover", "CrystalNetsError", "Group", "Groups",
            "Meeting", "Net", "NetMap", "NotANet", "NotATable", "NotAnArchive", "NotAnOption", "Outcome", "PackageMissing",
            "Placement", "PrimitiveGraph", "ProgramFailed", "ProgramNotFound", "ProgramTimedOut", "Sameness",

@@ -9,12 +9,12 @@ from collections.abc import Callable
 from importlib import import_module
 from typing import NoReturn
 
-HOMES = {"cif2cgd": "structures.command", "cgd2net": "blocks.command", "make_archives": "blocks.collection",
+HOMES = {"cif2cgd": "structures.command", "cgd2net": "blocks.command", "make_archives": "blocks.archives_command",
          "draw_nets": "pictures.command", "net_gallery": "pictures.gallery", "net_desk": "desk.command",
          "net_table": "tables.command", "net_topology": "topology.command",
          **{name: f"batch.{name}" for name in ("split_nets", "key_piece", "net_rows", "net_groups", "net_names",
                                                "accepted_nets", "archive_nets", "component_nets", "wide_archive")}}
-# what a command needs before it can say so by itself
+# what a command needs for whatever it does but its help
 PACKAGES = {"cif2cgd": "python3-gemmi python3-numpy python3-scipy",
             "cgd2net": "python3-gemmi python3-numpy", "make_archives": "python3-gemmi python3-numpy",
             "draw_nets": "python3-numpy", "net_gallery": "python3-numpy"}
@@ -51,6 +51,8 @@ def run(name: str) -> NoReturn:
             status: int | str | None = _main_of(name)()
         except SystemExit as ended:
             status = ended.code
+        except ModuleNotFoundError as missing:
+            status = _lacking(name, missing)
         sys.stdout.flush()
         sys.exit(status)
     except Exception as fault:
@@ -69,12 +71,15 @@ def _told(fault: Exception) -> str:
 
 
 def _main_of(name: str) -> Callable[[], int]:
-    """What a command runs. Where a package is missing that it needs at once, that is told."""
-    try:
-        main: Callable[[], int] = import_module(f".{HOMES[name]}", __package__).main
-        return main
-    except ModuleNotFoundError as missing:
-        if name not in PACKAGES:
-            raise
-        from .errors import lacking
-        sys.exit(f"{name}: {lacking(missing, f'apt-get install {PACKAGES[name]}')}")
+    main: Callable[[], int] = import_module(f".{HOMES[name]}", __package__).main
+    return main
+
+
+def _lacking(name: str, missing: ModuleNotFoundError) -> int:
+    """Tells in one line which package of Python a command needs, and gives its status; the fault itself is raised where
+    it needs none."""
+    if name not in PACKAGES:
+        raise missing
+    from .errors import lacking
+    print(f"{name}: {lacking(missing, f'apt-get install {PACKAGES[name]}')}", file=sys.stderr)
+    return FAILED.get(name, 1)

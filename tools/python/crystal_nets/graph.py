@@ -85,6 +85,21 @@ class QuotientGraph:
         """The edges as they were given, each once, with the labels of their vertices."""
         return tuple((self.vertices[u], self.vertices[v], shift) for u, v, shift in self.distinct_edges)
 
+    @property
+    def fault(self) -> str:
+        """Why it is the graph of no net, as the program would refuse its form; empty where it has that form. Whether the
+        net is connected, and how large the graph is, does not matter."""
+        lengths = {len(one.shift) for one in self.edges}
+        if not lengths:
+            return "it has no edges"
+        if len(lengths) > 1:
+            return "its shifts have several lengths"
+        if lengths != {self.dimension} or self.dimension not in (2, 3):
+            return "its shifts have not two or three numbers"
+        if any(one.u == one.v and not any(one.shift) for one in self.edges):
+            return "an edge joins a vertex to itself in one cell"
+        return ""
+
     def named(self, name: str) -> QuotientGraph:
         return replace(self, name=name)
 

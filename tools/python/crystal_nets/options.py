@@ -16,6 +16,12 @@ CONVENTION_NAMES: tuple[str, ...] = get_args(ConventionName)
 ModeName = Literal["", "zeolite", "intermetallic"]
 WayName = Literal["rules", "file", "both"]
 CHOICES = {"mode": get_args(ModeName), "bonds": get_args(WayName)}
+# the options that are on or off, with what each does
+SWITCHES = {"keep_ions": "keep the cations that a framework holds as guests",
+            "hydrogen_bonds": "hydrogen bonds are edges (in ices they always are)",
+            "partial_as_full": "take partly occupied atoms of a net as full",
+            "accept_misfit": "take atoms that do not fit the formula, or are too near",
+            "every_copy": "give each of several nets of the same atoms"}
 LONGEST_BOND = 20.0  # angstrom
 STRUCTURE_PACKAGES = "apt-get install python3-gemmi python3-numpy python3-scipy"
 BLOCK_PACKAGES = "apt-get install python3-gemmi python3-numpy"
@@ -57,15 +63,43 @@ def check_names(options: Mapping[str, object]) -> None:
         raise TypeError(f"there is no option {unknown[0]!r}; there are {', '.join(known)}")
 
 
+def option_word(name: str) -> str:
+    """An option as the command line has it: --leave-out for `leave_out`, and --bond for `lengths`."""
+    return "--bond" if name == "lengths" else "--" + name.replace("_", "-")
+
+
+def idle_option(options: Mapping[str, object]) -> tuple[str, str]:
+    """An option of structures that does nothing beside another one, and that one, by their names; empty where there is
+    none. Bonds of the file are taken as they are listed, contacts by gaps are no hydrogen bonds, and a zeolite has no
+    ions."""
+    if options.get("bonds") == "file":
+        by_rules = {name: options.get(name) for name in ("lengths", "hydrogen_bonds")}
+        idle = next((name for name, value in by_rules.items() if value), "")
+        idle = idle or "mode" * (options.get("mode") == "intermetallic")
+        if idle:
+            return idle, "bonds"
+    of_mode = {"zeolite": "keep_ions", "intermetallic": "hydrogen_bonds"}.get(str(options.get("mode")), "")
+    return (of_mode, "mode") if of_mode and options.get(of_mode) else ("", "")
+
+
+def told_idle(options: Mapping[str, object]) -> str:
+    """The same as the command line tells it; empty where each option has its effect."""
+    idle, other = idle_option(options)
+    return f"{option_word(idle)} has no effect with {option_word(other)} {options[other]}" if idle else ""
+
+
 def checked_options(options: Mapping[str, object]) -> Options:
     """The options as the reader of structures takes them. TypeError where there is no such option, and NotAnOption
-    where its value is none."""
+    where its value is none, or has no effect beside another one."""
     check_names(options)
     try:
         from .structures.nets.choice import Options
         values = {name: _checked(name, value) for name, value in options.items()}
     except ModuleNotFoundError as missing:
         raise PackageMissing(f"a structure: {lacking(missing, STRUCTURE_PACKAGES)}") from missing
+    idle, other = idle_option(values)
+    if idle:
+        raise NotAnOption(f"{idle} has no effect with {other}={values[other]!r}")
     return Options(**values)
 
 

@@ -16,8 +16,8 @@ from typing import TYPE_CHECKING, Any, Unpack
 
 from .errors import NotANet, PackageMissing, lacking
 from .files import GZIP, checked_path, content_of_file, in_plain_bytes
-from .net import TOO_LONG, Net
 from .kinds import is_of_other_kind
+from .net import TOO_LONG, Net
 from .other_forms import (is_json, is_poscar, is_poscar_of_folder, is_structure, stem_of, structure_of_fields,
                           structure_of_json)
 from .options import BLOCK_PACKAGES, STRUCTURE_PACKAGES, StructureOptions, check_names, checked_options
@@ -35,12 +35,14 @@ if TYPE_CHECKING:
 CIF = re.compile(rb"(?im)^[ \t]*(?:data_|_cell_|_atom_site_)")
 NETS = re.compile(rb"(?im)^[ \t]*(?:(?:PERIODIC_GRAPH|CRYSTAL|NET|TILING)[ \t\r]*$|key[ \t]+\d)")
 CIF_SUFFIXES = (".cif", ".mcif", ".mmcif")
-OTHER_SUFFIXES = (".vasp", ".poscar", ".contcar", ".xyz", ".extxyz")  # structures that ase reads
-SUFFIXES = (*CIF_SUFFIXES, *OTHER_SUFFIXES, ".cgd", ".arc")  # of the files of a folder
+XYZ_SUFFIXES = (".xyz", ".extxyz")
+STRUCTURE_SUFFIXES = (*CIF_SUFFIXES, ".vasp", ".poscar", ".contcar", *XYZ_SUFFIXES)  # all but those of CIF are for ase
+SUFFIXES = (*STRUCTURE_SUFFIXES, ".cgd", ".arc")  # of the files of a folder
 ROW = rb'(?:[+-]?\d++|"[^"\n]*+")[ \t]++(?:[+-]?\d++|"[^"\n]*+")[ \t]++[-+\d \t]++'
-HEAD_LINE = rb'PERIODIC_GRAPH|END|(?:NAME|ID)[ \t]++(?:"[^"\n]*+"|[^\s"#]++)|'  # or nothing
+HEAD_LINE = rb'END|(?:NAME|ID)[ \t]++(?:"[^"\n]*+"|[^\s"#]++)|'  # or nothing
 LINE_END = rb'[ \t\r]*+(?:#[^\n]*+)?\n'
 PLAIN_BLOCK = re.compile(  # line by line, from EDGES on with rows. ++ and *+ never take back what they took
+    rb'[ \t]*+(?i:PERIODIC_GRAPH)' + LINE_END +
     rb'(?:[ \t]*+(?i:' + HEAD_LINE + rb')' + LINE_END + rb')*+'
     rb'(?:[ \t]*+(?i:EDGES?|BONDS?)(?:[ \t]++' + ROW + rb')?' + LINE_END +
     rb'(?:[ \t]*+(?:' + ROW + rb'|(?i:(?:EDGES?|BONDS?)(?:[ \t]++' + ROW + rb')?|' + HEAD_LINE + rb'))'
@@ -127,7 +129,12 @@ def nets_of_file(content: bytes, file: str, options: Mapping[str, object]) -> li
 
 def is_known(file: str) -> bool:
     """Whether a file of this name is read among those of a folder, packed by gzip or not."""
-    return _suffix_of(file) in SUFFIXES or is_poscar_of_folder(PurePath(file).name.removesuffix(".gz"))
+    return _suffix_of(file) in SUFFIXES or is_structure_file(file)
+
+
+def is_structure_file(file: str) -> bool:
+    """Whether a file of this name is one of a structure, packed by gzip or not."""
+    return _suffix_of(file) in STRUCTURE_SUFFIXES or is_poscar_of_folder(PurePath(file).name.removesuffix(".gz"))
 
 
 def holds_structure(content: bytes, file: str) -> bool:
@@ -135,7 +142,7 @@ def holds_structure(content: bytes, file: str) -> bool:
     text. One of a kind that is not read is one, too, by its name: what reads structures tells of it."""
     suffix = _suffix_of(file)
     if suffix in SUFFIXES:
-        return suffix in (*CIF_SUFFIXES, *OTHER_SUFFIXES)
+        return suffix in STRUCTURE_SUFFIXES
     if is_poscar(file, content) or CIF.search(content) is not None:
         return True
     return is_of_other_kind(file) and NETS.search(content) is None
@@ -164,7 +171,7 @@ def unpacked(content: bytes, file: str, most: int = MOST_UNPACKED) -> tuple[byte
 
 def _options_for(file: str, options: Mapping[str, object]) -> Mapping[str, object]:
     """The options, where the file is a structure."""
-    return options if _suffix_of(file) in (*CIF_SUFFIXES, *OTHER_SUFFIXES) else {}
+    return options if is_structure_file(file) else {}
 
 
 def _without_options(nets: list[Net], options: Mapping[str, object]) -> list[Net]:
@@ -253,7 +260,7 @@ def _net_of_block(chunk: Chunk, lines: list[bytes]) -> Net:
         net = net_of_block(block, notes)
     except Refused as reason:
         return Net.refused(f"line {reason.line or chunk.opening_line}: {reason.reason}", name, notes)
-    except MemoryError:
+    except (MemoryError, ModuleNotFoundError):
         raise
     except Exception as fault:  # of the reader, or of a library: the next block may still be read
         return Net.refused(f"line {chunk.opening_line}: {type(fault).__name__} {fault}", name, notes)

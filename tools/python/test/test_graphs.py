@@ -22,6 +22,20 @@ class Graphs(unittest.TestCase):
         for net in read(TOP / "archives/common.cgd")[:50]:
             self.assertEqual(graph_of_text(text_of_graph(net.graph), net.name), net.graph)
 
+    def test_what_the_program_takes_for_no_net_is_no_graph(self):
+        rows = "EDGES\n1 1 0 1\n1 1 1 0\n"
+        for text, line in ((f"PERIODIC_GRAPH\n{rows}PERIODIC_GRAPH\n{rows}END\n", 5), (f"PERIODIC_GRAPH\nNAME a\n{rows}ID b\nEND\n", 6),
+                           ("PERIODIC_GRAPH\n1 1 0 1\nEND\n", 2), ("PERIODIC_GRAPH\nEDGES\n1 1 0 1\nNAME a\n1 1 1 0\nEND\n", 5)):
+            with self.assertRaisesRegex(NotANet, f"line {line} of the block is no row"):
+                graph_of_text(text.encode())
+        for text in ("PERIODIC_GRAPH\nbond 1 1 0 1\n1 1 1 0\nEND\n", "# x\nperiodic_graph\nEdges\n\n1 1 0 1 # y\nID 5\nBONDS\n1 1 1 0\nEND\n"):
+            self.assertEqual(graph_of_text(text.encode()).edges, (Edge(0, 0, (0, 1)), Edge(0, 0, (1, 0))))
+        for edges, fault in (((), "no edges"), ([(1, 1, (1, 0)), (1, 1, (0, 1, 0))], "several lengths"), ([(1, 1, (1,))], "two or three"),
+                             ([(1, 1, (0, 0)), (1, 1, (0, 1))], "to itself"), ([(1, 2, (0, 0))], "")):
+            found = QuotientGraph.of_labelled(edges).fault
+            self.assertIn(fault, found)
+            self.assertEqual(bool(found), bool(fault))
+
     def test_an_edge_is_one_in_both_directions(self):
         for u, v, shift in product((0, 1), (0, 1), product((-1, 0, 1), repeat=2)):
             if u != v or any(shift):

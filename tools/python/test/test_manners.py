@@ -53,12 +53,13 @@ class Interpreters(FolderTest):
         bare = self.folder / "python3"
         bare.write_text(f"#!/bin/sh\nexec {sys.executable} -S \"$@\"\n")
         bare.chmod(0o755)
-        told = run(bare, "-B", CGD2NET, "x.cgd", status=1).stderr.decode()
+        told = run(bare, "-B", CGD2NET, TOP / "examples/embedded.cgd", status=1).stderr.decode()
         self.assertIn(f"cgd2net: {sys.executable} has no module numpy; apt-get install python3-gemmi", told)
         code = ("import sys; sys.executable = '/opt/other/python3'\n"
                 f"sys.argv = ['cgd2net']; sys.path.insert(0, {str(TOOLS / 'python')!r})\n"
                 "from crystal_nets.commands import run; run('cgd2net')")
-        told = run(sys.executable, "-S", "-B", "-c", code, status=1).stderr.decode()
+        crystals = (TOP / "examples/embedded.cgd").read_bytes()
+        told = run(sys.executable, "-S", "-B", "-c", code, status=1, stdin=crystals).stderr.decode()
         self.assertIn("/opt/other/python3 has no module numpy", told)
         self.assertIn("gives it to /usr/bin/python3", told)
 

@@ -10,7 +10,7 @@ import sys
 import tomllib
 import unittest
 
-from testing import PROGRAM, TOOLS, FolderTest, long_test, need_modules, need_program, run
+from testing import PROGRAM, TOOLS, TOP, FolderTest, long_test, need_modules, need_program, run
 
 from crystal_nets import commands, options
 
@@ -40,12 +40,30 @@ class Imports(unittest.TestCase):
                 "print(*({'numpy', 'gemmi', 'scipy', 'pandas', 'networkx'} & set(sys.modules)))")
         self.assertEqual(run(sys.executable, "-I", "-c", code, NET_TOOL=PROGRAM).stdout, b"\n")
 
+    def test_blocks_that_need_python_alone(self):
+        """Key lines and blocks PERIODIC_GRAPH of other programs; of a CRYSTAL it is told what it needs, and no block is refused
+        for it."""
+        graph, crystal = "PERIODIC_GRAPH\nEDGES\na a 1 0\na a 0 1\nEND\n", "CRYSTAL\nGROUP Pm-3m\nNODE 1 6 0 0 0\nEND\n"
+        items = "key 2 1 1 1 0 1 1 0 1\nid sql\nend\n"
+        code = ("import sys; sys.modules.update(dict.fromkeys(['numpy', 'gemmi', 'scipy']))\nsys.argv[0] = 'cgd2net'\n"
+                f"sys.path.insert(0, {str(FOLDER)!r})\nimport crystal_nets.commands; crystal_nets.commands.main()")
+        done = run("/usr/bin/python3", "-B", "-c", code, stdin=(graph + items).encode())
+        self.assertEqual(done.stdout.count(b"PERIODIC_GRAPH\n"), 2)
+        done = run("/usr/bin/python3", "-B", "-c", code, stdin=(graph + crystal + items).encode(), status=1)
+        self.assertRegex(done.stderr.decode(), "\\ncgd2net: .*apt-get install python3-gemmi python3-numpy")
+        self.assertNotIn(b"Traceback", done.stderr)
+        code = (f"import sys; sys.modules.update(dict.fromkeys(['numpy', 'gemmi', 'scipy'])); sys.path.insert(0, {str(FOLDER)!r})\n"
+                f"import crystal_nets as c\nprint(c.read({graph + items!r}))\ntry: c.read({crystal!r})\nexcept c.PackageMissing as told: print(told)")
+        told = run("/usr/bin/python3", "-B", "-c", code).stdout.decode().splitlines()
+        self.assertEqual(told[0].count("1 vertex, 2 edges, dimension 2"), 2)
+        self.assertIn("python3-gemmi", told[1])
+
     def test_what_is_advised_is_what_is_loaded(self):
         """Where a package is missing, no other is named than those that are needed."""
         need_modules("gemmi", "numpy", "scipy")
         for modules, advised, by_command in (
-                ("structures.conversion", options.STRUCTURE_PACKAGES, "cif2cgd"), ("blocks.converter", options.BLOCK_PACKAGES, "cgd2net"),
-                ("blocks.collection", options.BLOCK_PACKAGES, "make_archives")):
+                ("structures.conversion", options.STRUCTURE_PACKAGES, "cif2cgd"), ("blocks.expansion", options.BLOCK_PACKAGES, "cgd2net"),
+                ("blocks.symbolic", options.BLOCK_PACKAGES, "make_archives")):
             code = (f"import sys; sys.path.insert(0, {str(FOLDER)!r})\nimport crystal_nets.{modules}\n"
                     "print(*sorted({'gemmi', 'numpy', 'scipy', 'spglib', 'ase', 'flask'} & set(sys.modules)))")
             loaded = " ".join(f"python3-{name}" for name in run(sys.executable, "-I", "-c", code).stdout.decode().split())
@@ -81,6 +99,23 @@ class Docstrings(unittest.TestCase):
             tried += done.attempted
         self.assertGreater(tried, 25)
 
+    def test_examples_in_documents(self):
+        """As a reader types them, in the folder of the repository."""
+        need_program()
+        need_modules("gemmi", "numpy", "scipy", "ase", "pandas")
+        import crystal_nets
+        folder = os.getcwd()
+        self.addCleanup(os.chdir, folder)
+        os.chdir(TOP)
+        for document, least in (("README.md", 4), ("tools/python/README.md", 9)):
+            lines = (TOP / document).read_text().splitlines()
+            text = "".join(line.removeprefix("    ") + "\n" for line in lines if line.startswith("    ") or not line)
+            names = {name: getattr(crystal_nets, name) for name in crystal_nets.__all__}
+            runner = doctest.DocTestRunner()
+            runner.run(doctest.DocTestParser().get_doctest(text, names, document, document, 0))
+            self.assertEqual(runner.failures, 0, document)
+            self.assertGreaterEqual(runner.tries, least)
+
     def test_each_public_name_has_a_docstring(self):
         import crystal_nets
         for name in crystal_nets.__all__:
@@ -99,12 +134,10 @@ class Types(unittest.TestCase):
 
 class Commands(unittest.TestCase):
     def test_each_script_starts_the_command_of_its_name(self):
-        """And stands alone but for that: what it does is in the package."""
-        need_modules("gemmi", "numpy", "scipy", "spglib", "flask")
+        import crystal_nets
         for name in commands.HOMES:
             script, = TOOLS.glob(f"*/{name}")
-            self.assertIn(f'run("{name}")', script.read_text(), name)
-            self.assertLess(len(script.read_text().splitlines()), 15, name)
+            self.assertEqual(run(script, "--version").stdout.decode(), f"{name} (net_tool) {crystal_nets.__version__}\n")
             self.assertIn(f"usage: {name}".encode(), run(script, "--help").stdout, name)
 
     def test_what_has_not_the_form_is_told_in_one_line(self):

@@ -6,11 +6,13 @@ import sys
 import time
 import unittest
 from pathlib import Path
+from typing import get_type_hints
 
 from testing import IS_LONG, TOOLS, TOP, FolderTest, long_test, need_modules, need_program, run
 
 from crystal_nets import (Archive, Net, NotANet, NotAnOption, StructureOptions, components, identify,  # noqa: E402
                           identify_all, read, same, without_twins)
+from crystal_nets.options import SWITCHES  # noqa: E402
 from crystal_nets.provenance import Provenance  # noqa: E402
 
 ROCK_SALT = """data_rock_salt
@@ -57,7 +59,17 @@ class Options(unittest.TestCase):
         from crystal_nets.structures.nets.choice import Options as Read
         from crystal_nets.structures.units.conventions import AUTO, CONVENTIONS
         self.assertEqual(set(StructureOptions.__annotations__), {entry.name for entry in dataclasses.fields(Read)})
+        self.assertEqual({name for name, kind in get_type_hints(StructureOptions).items() if kind is bool}, set(SWITCHES))
         self.assertEqual(set(CONVENTION_NAMES), {*CONVENTIONS, AUTO})
+
+    def test_options_without_an_effect_beside_another_are_refused(self):
+        for options in ({"bonds": "file", "lengths": {"Na-Cl": 3.0}}, {"bonds": "file", "hydrogen_bonds": True},
+                        {"bonds": "file", "mode": "intermetallic"}, {"mode": "zeolite", "keep_ions": True},
+                        {"mode": "intermetallic", "hydrogen_bonds": True}):
+            with self.assertRaisesRegex(NotAnOption, "has no effect with"):
+                read(ROCK_SALT, **options)
+        read(ROCK_SALT, bonds="both", lengths={"Na-Cl": 3.0}, mode="intermetallic", keep_ions=True)
+        read(ROCK_SALT, bonds="file", lengths={}, mode="zeolite", keep_ions=False)
 
     def test_elements_are_whole_symbols(self):
         self.assertEqual({net.vertices for net in read(ROCK_SALT, leave_out="N")}, {net.vertices for net in read(ROCK_SALT)})

@@ -7,7 +7,7 @@ from collections import Counter
 from itertools import product
 
 from odd_cells import in_odd_cell
-from testing import IS_LONG, TOP, need_program
+from testing import IS_LONG, TOOLS, TOP, FolderTest, need_modules, need_program, run
 
 from crystal_nets import Answer, Net, identify, identify_all, read, to_pandas  # noqa: E402
 from crystal_nets.topology import topology_of  # noqa: E402
@@ -123,7 +123,7 @@ def cycles_of(net, path, other, length):
             yield from cycles_of(net, [*path, near], other, length)
 
 
-class Answers(unittest.TestCase):
+class Answers(FolderTest):
     def test_of_an_answer(self):
         need_program()
         answer = identify(NETS["dia"], archive=None)
@@ -135,6 +135,24 @@ class Answers(unittest.TestCase):
         refused = identify(Net([(1, 1, (2, 0)), (1, 1, (0, 1))]), archive=None)
         self.assertIsNone(refused.topology)
         self.assertIsNone(json.loads(refused.to_json(topology=True))["topology"])
+
+    def test_of_a_file_with_blocks_that_are_no_nets(self):
+        """Each is told with its reason, and the nets after it have their lines."""
+        need_modules("gemmi", "numpy")
+        good = "PERIODIC_GRAPH\nNAME good\nEDGES\n1 1 0 1\n1 1 1 0\nEND\n"
+        bad = {"a row": "1 1 0 x\nEND\n", "lengths": "1 1 0 1\n1 1 0 1 0\nEND\n", "names": "1 1 0 1\n1 1 1 0\nNAME b\nEND\n",
+               "loop": "1 1 0 0\n1 1 0 1\n1 1 1 0\nEND\n", "edges": "END\n", "end": f"1 1 1 1\n{good}"}
+        text = "".join(f'PERIODIC_GRAPH\nNAME "{name}"\nEDGES\n{rows}{good}' for name, rows in bad.items())
+        file = self.folder / "x.cgd"
+        file.write_text(text)
+        done = run(TOOLS / "batch/net_topology", file, status=1)
+        lines = done.stdout.decode().splitlines()[1:]
+        self.assertEqual(lines, [f"{file}\tgood\t4^4.6^2\t4.4.4.4.*.*\t221.00\t11"] * len(bad))
+        told = done.stderr.decode()
+        for name, reason in (("a row", "line 4 of the block is no row: '1 1 0 x'"), ("lengths", "its shifts have several lengths"),
+                             ("names", "line 6 of the block is no row: 'NAME b'"), ("loop", "an edge joins a vertex to itself in one cell"),
+                             ("edges", "it has no edges"), ("end", "line 5 of the block is no row: 'PERIODIC_GRAPH'")):
+            self.assertIn(f"net_topology: {file}: {name}: {reason}\n", told)
 
     def test_in_a_table(self):
         need_program()

@@ -10,17 +10,16 @@ import argparse
 import signal
 import sys
 
+from ..command_line import parser_of
 from ..texts.net_text import KEY_IS_ONE_LINE, NetReport, NoReport, chunks_as_read, continued_key, nets_of_report
 
 WITHOUT_KEY = tuple(f"refused {number} ".encode() for number in (4, 5, 6, 7))
 
 
 def words() -> argparse.Namespace:
-    parser = argparse.ArgumentParser(
-        prog="accepted_nets", description=__doc__,
-        epilog="exit status: 0 told; 1 the report is not on that file, or is none; 2 usage.")
-    parser.add_argument("report", metavar="REPORT")
-    parser.add_argument("file", metavar="FILE")
+    parser = parser_of("accepted_nets", __doc__, "exit status: 0 told; 1 the report is not on that file, or is none; 2 usage.")
+    parser.add_argument("report", metavar="REPORT", help="what net_tool key, or union, printed of FILE")
+    parser.add_argument("file", metavar="FILE", help="of blocks PERIODIC_GRAPH, or of key lines")
     parser.add_argument("--new-names", action="store_true",
                         help="leave out blocks without a name, or with one that stood before")
     parser.add_argument("--new-keys", action="store_true",

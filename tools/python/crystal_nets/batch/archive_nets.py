@@ -4,11 +4,11 @@ computed from their edges."""
 
 from __future__ import annotations
 
-import argparse
 import signal
 import sys
 from pathlib import Path
 
+from ..command_line import parser_of
 from ..texts.archive_text import entries_of
 from ..texts.graph_text import text_of_graph
 from ..texts.net_text import NoReport
@@ -16,10 +16,9 @@ from ..texts.net_text import NoReport
 
 def main() -> int:
     signal.signal(signal.SIGPIPE, signal.SIG_DFL)  # a reader that stops, as head, is no fault
-    parser = argparse.ArgumentParser(
-        prog="archive_nets", description=__doc__,
-        epilog="exit status: 0 written; 1 the file is no archive, and nothing is written; 2 usage.")
-    parser.add_argument("archive", metavar="ARCHIVE")
+    parser = parser_of("archive_nets", __doc__,
+                       "exit status: 0 written; 1 the file is no archive, and nothing is written; 2 usage.")
+    parser.add_argument("archive", metavar="ARCHIVE", help="an archive, or a folder of them")
     archive = parser.parse_args().archive
     files = sorted(Path(archive).glob("*.archive")) if Path(archive).is_dir() else [Path(archive)]
     if not files:

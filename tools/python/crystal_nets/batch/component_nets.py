@@ -6,10 +6,10 @@ nets without a key are told on standard error."""
 
 from __future__ import annotations
 
-import argparse
 import signal
 import sys
 
+from ..command_line import parser_of
 from ..texts.component_text import NetParts, Part, parts_of_report
 from ..texts.graph_text import text_of_graph
 from ..texts.key_graph import graph_of_key
@@ -28,8 +28,7 @@ def name_of(net: NetParts, part: Part) -> bytes:
 
 def main() -> int:
     signal.signal(signal.SIGPIPE, signal.SIG_DFL)  # a reader that stops, as head, is no fault
-    argparse.ArgumentParser(prog="component_nets", description=__doc__, epilog=EPILOG,
-                            formatter_class=argparse.RawDescriptionHelpFormatter).parse_args()
+    parser_of("component_nets", __doc__, EPILOG, is_laid_out=True).parse_args()
     blocks, left_out = [], []
     with open(0, "rb") as report:
         for net in parts_of_report(report):

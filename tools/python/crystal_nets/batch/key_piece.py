@@ -21,6 +21,7 @@ from pathlib import Path
 from types import FrameType
 from typing import NoReturn
 
+from ..command_line import parser_of, whole_number
 from ..files import write_whole
 from ..program import find_program
 from ..reading import name_of_block
@@ -46,12 +47,12 @@ def fail(status: int, reason: str) -> NoReturn:
 
 
 def words() -> argparse.Namespace:
-    parser = argparse.ArgumentParser(prog="key_piece", description=__doc__, epilog=EPILOG)
-    parser.add_argument("folder", metavar="FOLDER", type=Path)
-    parser.add_argument("number", metavar="N")
-    parser.add_argument("command", metavar="COMMAND", nargs="?", default="key")
-    parser.add_argument("archive", metavar="ARCHIVE", nargs="?", type=Path)
-    parser.add_argument("--seconds", metavar="N", type=whole_seconds, help="for each net, after which it is stopped")
+    parser = parser_of("key_piece", __doc__, EPILOG)
+    parser.add_argument("folder", metavar="FOLDER", type=Path, help="of pieces, which split_nets made")
+    parser.add_argument("number", metavar="N", help="of the piece, from 1 on")
+    parser.add_argument("command", metavar="COMMAND", nargs="?", default="key", help="check, place, key or identify (%(default)s)")
+    parser.add_argument("archive", metavar="ARCHIVE", nargs="?", type=Path, help="for names with identify: an archive, or a folder of them")
+    parser.add_argument("--seconds", metavar="N", type=whole_number(1, 1_000_000), help="for each net, after which it is stopped")
     asked = parser.parse_args()
     if not re.fullmatch("[1-9][0-9]*", asked.number):
         fail(USAGE, f"N is the number of a piece, from 1 on, and not '{asked.number}'")
@@ -60,12 +61,6 @@ def words() -> argparse.Namespace:
     if asked.archive and asked.command != "identify":
         fail(USAGE, f"{asked.command} takes no archive; identify does")
     return asked
-
-
-def whole_seconds(text: str) -> int:
-    if not text.isdecimal() or not 1 <= int(text) <= 1_000_000:
-        raise argparse.ArgumentTypeError(f"{text!r} is not from 1 to 1000000")
-    return int(text)
 
 
 @dataclass(frozen=True)

@@ -11,6 +11,7 @@ import sys
 from collections.abc import Iterable, Iterator
 from itertools import groupby
 
+from ..command_line import parser_of
 from ..tables.sorting import sorted_lines
 from ..texts.row_text import Row
 
@@ -18,9 +19,7 @@ from .pieces import want_rows, whole_rows
 
 
 def words() -> argparse.Namespace:
-    parser = argparse.ArgumentParser(
-        prog="net_groups", description=__doc__,
-        epilog="exit status: 0 told; 1 a file is not there, or is not one of rows with keys; 2 usage.")
+    parser = parser_of("net_groups", __doc__, "exit status: 0 told; 1 a file is not there, or is not one of rows with keys; 2 usage.")
     want_rows(parser)
     return parser.parse_args()
 

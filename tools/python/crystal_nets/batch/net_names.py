@@ -16,6 +16,7 @@ from collections import defaultdict
 from collections.abc import Iterator
 from pathlib import Path
 
+from ..command_line import parser_of
 from ..errors import NotANet
 from ..program import find_program
 from ..side_by_side import bind_programs, first_of_program
@@ -34,8 +35,8 @@ repository, or net_tool on the path."""
 
 
 def words() -> argparse.Namespace:
-    parser = argparse.ArgumentParser(prog="net_names", description=__doc__, epilog=EPILOG)
-    parser.add_argument("archive", metavar="ARCHIVE", type=Path)
+    parser = parser_of("net_names", __doc__, EPILOG)
+    parser.add_argument("archive", metavar="ARCHIVE", type=Path, help="an archive, or a folder of them")
     want_rows(parser)
     parser.add_argument("--pieces", metavar="FOLDER", type=Path, help="names of nets without a key, too")
     return parser.parse_args()
@@ -63,7 +64,7 @@ def check_archive(archive: Path) -> None:
     if done.returncode != 0:
         told = done.stdout.split(b"\n")[0].decode(errors="replace")
         status = done.returncode if done.returncode > 0 else 128 - done.returncode
-        raise ArchiveRefused(status, f"{archive}: net_tool duplicates ended with {status}: {told}")
+        raise ArchiveRefused(status, f"{archive.resolve()}: net_tool duplicates ended with {status}: {told}")
 
 
 def main() -> int:

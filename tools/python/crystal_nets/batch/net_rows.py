@@ -10,18 +10,17 @@ import signal
 import sys
 from collections.abc import Callable
 
+from ..command_line import parser_of, whole_number
 from ..texts.net_text import NetReport, NoReport, nets_of_report
 from ..texts.row_text import COMMANDS, row_of
 
 
 def words() -> argparse.Namespace:
-    parser = argparse.ArgumentParser(
-        prog="net_rows", description=__doc__,
-        epilog="exit status: 0 told; 1 the text is no report; 2 usage.")
+    parser = parser_of("net_rows", __doc__, "exit status: 0 told; 1 the text is no report; 2 usage.")
     parser.add_argument("--json", action="store_true", help="JSON lines")
-    parser.add_argument("--blocks-before", type=int, default=0, metavar="N",
+    parser.add_argument("--blocks-before", type=whole_number(0, 999_999_999), default=0, metavar="N",
                         help="blocks before those of the report, for pieces of a longer file")
-    parser.add_argument("--lines-before", type=int, default=0, metavar="N",
+    parser.add_argument("--lines-before", type=whole_number(0, 999_999_999), default=0, metavar="N",
                         help="lines before them")
     parser.add_argument("--command", choices=[command.decode() for command in COMMANDS], metavar="COMMAND",
                         help="the command that wrote the report, which each row names then")

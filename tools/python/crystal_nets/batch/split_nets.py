@@ -14,10 +14,11 @@ import argparse
 import io
 import os
 import sys
-from collections.abc import Callable, Iterable, Iterator
+from collections.abc import Iterable, Iterator
 from dataclasses import dataclass
 from pathlib import Path
 
+from ..command_line import parser_of, whole_number
 from ..files import AHEAD, opened_plain, write_whole
 from ..net import Net
 from ..reading import holds_structure, is_ended, is_plain, net_of_chunk, nets_of_cif
@@ -28,27 +29,17 @@ from .pieces import INDEX, IndexRow, sum_of_piece
 
 
 def words() -> argparse.Namespace:
-    parser = argparse.ArgumentParser(
-        prog="split_nets", description=__doc__,
-        epilog="exit status: 0 cut; 1 a file cannot be read or written, a block is too long, or one gives no net; 2 usage.")
+    parser = parser_of(
+        "split_nets", __doc__,
+        "exit status: 0 cut; 1 a file cannot be read or written, a block is too long, or one gives no net; 2 usage.")
     parser.add_argument("file", metavar="FILE", help="a file of nets or of structures, or - for standard input")
     parser.add_argument("folder", metavar="FOLDER", type=Path, help="made where it is not there")
-    parser.add_argument("--blocks", type=within(MOST_BLOCKS), default=MOST_BLOCKS, metavar="N",
+    parser.add_argument("--blocks", type=whole_number(1, MOST_BLOCKS), default=MOST_BLOCKS, metavar="N",
                         help="at most so many blocks in a piece (%(default)s)")
-    parser.add_argument("--bytes", type=within(MOST_BYTES), default=MOST_BYTES, metavar="N",
+    parser.add_argument("--bytes", type=whole_number(1, MOST_BYTES), default=MOST_BYTES, metavar="N",
                         help="at most so many bytes in a piece (%(default)s)")
     parser.add_argument("--as-it-is", action="store_true", help="turn no block into a net that is read")
     return parser.parse_args()
-
-
-def within(most: int) -> Callable[[str], int]:
-    """A reader of whole numbers from 1 to most."""
-    def number(text: str) -> int:
-        value = int(text)
-        if not 1 <= value <= most:
-            raise argparse.ArgumentTypeError(f"{text} is not from 1 to {most}")
-        return value
-    return number
 
 
 @dataclass(frozen=True)

@@ -5,10 +5,10 @@ What is left out is told on standard error."""
 
 from __future__ import annotations
 
-import argparse
 import sys
 from pathlib import Path
 
+from ..command_line import parser_of
 from ..asking import keys
 from ..net import Net
 from ..reading import read
@@ -22,8 +22,7 @@ example: wide_archive ~/.local/share/net_tool/archives/mine mine.cgd"""
 
 
 def main() -> int:
-    parser = argparse.ArgumentParser(prog="wide_archive", description=__doc__, epilog=EPILOG,
-                                     formatter_class=argparse.RawDescriptionHelpFormatter)
+    parser = parser_of("wide_archive", __doc__, EPILOG, is_laid_out=True)
     parser.add_argument("stem", metavar="NAME", type=Path, help="the path of the archive without .cgd")
     parser.add_argument("files", nargs="+", metavar="FILE", help="files of nets")
     asked = parser.parse_args()

@@ -13,4 +13,5 @@ symbolic                  NET blocks
 periodic_graph, key_lines PERIODIC_GRAPH blocks of other programs, and items of Systre's archives
 made_net                  the net that is made of them, within the limits of the program
 command                   the words of the command line of cgd2net
-collection                archives of many nets, and what is refused: make_archives"""
+archives_command          the words of make_archives
+collection                archives of many nets, and what is refused"""

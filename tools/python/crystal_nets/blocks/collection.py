@@ -6,37 +6,27 @@ an archive of their own, in which they are told by verified maps."""
 
 from __future__ import annotations
 
-import argparse
 import os
-import signal
 import subprocess
-import sys
 from collections.abc import Iterable, Iterator
 from dataclasses import dataclass
 from pathlib import Path
 
 from ..progress import Progress
-from ..errors import NotANet, in_words
 from ..files import opened_plain, write_whole
 from ..net import Net
 from ..program import find_program
 from ..provenance import REFUSED, TOLD, Note
-from ..side_by_side import bind_programs, first_of_program
-from ..texts.graph_text import plain
+from ..side_by_side import first_of_program
 from ..texts.net_text import MOST_BLOCKS, MOST_BYTES, NetReport, NoReport, nets_of_report
 from ..wide.archive import write_wide_archive
 from .converter import Block, Converter, lines_of
 from .tokens import decoded
 
-DONE, SOME_REFUSED, FAILED = 0, 1, 3
+DONE, SOME_REFUSED = 0, 1
 PIECE = 200            # nets whose keys are asked for at a time
 MOST_TEXT = MOST_BYTES - (1 << 20)
 WITHOUT_KEY = tuple(f"refused {number} " for number in (4, 5, 6, 7))
-DESCRIPTION = """Archives of the nets of .cgd and .arc files: NAME.archive, and NAME.2.archive and so on where one
-cannot hold them all. What is refused, and why, goes to NAME.refused. Nets that have no key, but a name, are told by
-maps: they go to NAME.wide.cgd, with the index NAME.wide.index."""
-EPILOG = """exit status: 0 each net is taken; 1 some net is refused; 2 usage; 3 nothing is made.
-NET_TOOL is the program; where it is not set, the one of this installation or repository, or net_tool on the path."""
 
 
 class Failed(Exception):
@@ -102,7 +92,7 @@ def read_nets(files: list[str], refused: list[str]) -> list[ListedNet]:
                     collector.push(line, is_rest)
                     bar.step(len(line))
             collector.finish()
-            bar.tell([plain(line) for line in collector.told])
+            bar.tell([line.encode(errors="replace").decode() for line in collector.told])
             nets += collector.nets
     return nets
 
@@ -210,18 +200,3 @@ def make_archives(stem: Path, files: list[str]) -> int:
     if refused:
         print(f"{refusals}: {len(refused)} are left out, and why")
     return SOME_REFUSED if refused else DONE
-
-
-def main() -> int:
-    signal.signal(signal.SIGINT, signal.SIG_DFL)
-    parser = argparse.ArgumentParser(prog="make_archives", description=DESCRIPTION, epilog=EPILOG,
-                                     formatter_class=argparse.RawDescriptionHelpFormatter)
-    parser.add_argument("stem", metavar="NAME", type=Path, help="the path of the archive without .archive")
-    parser.add_argument("files", nargs="+", metavar="FILE", help="a .cgd or .arc file")
-    asked = parser.parse_args()
-    bind_programs()
-    try:
-        return make_archives(asked.stem, asked.files)
-    except (Failed, NotANet, OSError) as reason:
-        print(f"make_archives: {in_words(reason)}", file=sys.stderr)
-        return FAILED

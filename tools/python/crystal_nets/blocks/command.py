@@ -6,11 +6,10 @@ import argparse
 import signal
 import sys
 
+from ..command_line import parser_of
 from ..errors import NotANet
 from ..files import STANDARD_OUTPUT, opened_plain
 from ..provenance import TOLD
-
-from .converter import Converter
 
 DESCRIPTION = """The nets of .cgd and .arc files for net_tool: writes each block CRYSTAL, NET or TILING, and each
 item of key lines, as a block PERIODIC_GRAPH to standard output, and all else as it is. A block
@@ -21,8 +20,7 @@ DONE, SOME_REFUSED = 0, 1
 
 
 def words() -> argparse.Namespace:
-    parser = argparse.ArgumentParser(
-        prog="cgd2net", description=DESCRIPTION, epilog=EPILOG, formatter_class=argparse.RawDescriptionHelpFormatter)
+    parser = parser_of("cgd2net", DESCRIPTION, EPILOG, is_laid_out=True)
     parser.add_argument("files", nargs="*", metavar="FILE", default=["-"],
                         help="a .cgd or .arc file, packed by gzip or not, or - for standard input, which is read where "
                         "none is given")
@@ -40,6 +38,8 @@ def main() -> int:
 
 def convert_file(file: str, is_quiet: bool) -> int:
     """Writes the nets of a file; 1 where some block is refused, or the file cannot be read."""
+    from .converter import Converter  # whose packages no help needs
+
     def tell(text: str, kind: str) -> None:
         if kind in TOLD or not is_quiet:
             sys.stdout.flush()

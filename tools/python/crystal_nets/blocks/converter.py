@@ -10,14 +10,11 @@ from ..net import Net
 from ..provenance import DROPPED, REFUSED, Note, notes_of
 from ..refusal import Refused
 from ..texts.graph_text import plain
-from ..texts.net_text import BYTE_ORDER_MARK, ends_stray, first_word, is_stray, opens_block, told_of_stray
+from ..texts.net_text import ALONE, BYTE_ORDER_MARK, ends_stray, first_word, is_stray, opens_block, told_of_stray
 
-from .crystal import Fields, crystal_of
-from .expansion import net_of_crystal_block
 from .key_lines import net_of_item
 from .periodic_graph import rewritten
 from .sections import are_numbers, sections_of
-from .symbolic import symbolic_net
 from .tokens import decoded, number_of, shown, tokens_of
 
 MOST_LINES = 40_000
@@ -178,6 +175,8 @@ class Converter:
             self._tell_notes(block, notes)
             self._refuse(block, reason)
             return
+        except ModuleNotFoundError:  # of a package, without which no such block is read
+            raise
         except Exception as fault:  # of this tool, or of a library: the next block may still be read
             self._refuse(block, Refused(f"cgd2net failed: {type(fault).__name__} {fault}"))
             return
@@ -224,8 +223,13 @@ def net_of_block(block: Block, notes: list[str | Note]) -> Net:
 
 
 def _lines_as_read(block: Block, notes: list[str | Note]) -> bytes:
-    """The lines of a PERIODIC_GRAPH, as far as the program reads them."""
+    """The lines of a PERIODIC_GRAPH, as far as the program reads them. A block that begins before its END is told, as the
+    program takes it for a part of this one, and refuses both."""
     _check_end(block, notes)
+    inside = next((k for k, line in enumerate(block.lines) if k and ALONE.fullmatch(line)), 0)
+    if inside:
+        word = first_word(block.lines[inside]).decode()
+        notes.append(Note(DROPPED, f"line {block.line + inside}: {word} begins before the END of this block: both are read as one"))
     return b"".join(rewritten(block.lines, notes, block.line))
 
 
@@ -246,6 +250,9 @@ def _net_made_of(block: Block, notes: list[str | Note]) -> Net:
         return net_of_item(numbered[:-1], notes)
     if len(tokens_of(numbered[0][1], block.line)) > 1:
         raise Refused(MORE_WORDS.format(block.kind), block.line)
+    from .crystal import Fields, crystal_of  # whose packages no text of other blocks needs
+    from .expansion import net_of_crystal_block
+    from .symbolic import symbolic_net
     fields = Fields(sections_of(numbered[1:-1]))
     notes += fields.dropped(USED[block.kind])
     if block.kind == "NET":

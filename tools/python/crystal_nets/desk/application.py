@@ -12,7 +12,7 @@ from flask import Flask, Request, Response, request
 from werkzeug.exceptions import BadRequest, HTTPException
 
 from ..files import content_of_file
-from ..options import CONVENTION_NAMES
+from ..options import CONVENTION_NAMES, SWITCHES
 from ..pictures.text import PALETTE
 from ..provenance import Provenance
 from . import questions
@@ -27,7 +27,6 @@ SCRIPTS = ("work.js", "cards.js", "listed.js", "structure.js", "table.js", "zip.
 FILES = {"": (PAGE / "desk.html", "text/html"), "desk.css": (PAGE / "desk.css", "text/css"),
          **{name: (PAGE / name, "text/javascript") for name in SCRIPTS},
          "viewer.js": (VIEWER, "text/javascript"), "icon.svg": (PAGE / "icon.svg", "image/svg+xml")}
-CHOICES = ("keep_ions", "hydrogen_bonds", "partial_as_full", "accept_misfit", "every_copy")
 MOST_ROWS = 1000  # of one question
 MOST_FIELDS = 16  # of one form; the page sends four
 MOST_READ_AWAY = 2**32  # bytes of a request that is too large
@@ -232,6 +231,6 @@ def options_of_form() -> dict[str, Any]:
     if convention not in (FITTING, *CONVENTION_NAMES):
         raise BadRequest("there is no such convention")
     ticked = list_of_texts("choices")
-    if not set(ticked) <= set(CHOICES):
+    if not set(ticked) <= SWITCHES.keys():
         raise BadRequest("there is no such choice")
     return {"convention": convention, **{name: True for name in ticked}}

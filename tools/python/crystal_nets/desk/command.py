@@ -11,9 +11,9 @@ import sys
 import tempfile
 import threading
 import webbrowser
-from collections.abc import Callable
 from pathlib import Path
 
+from ..command_line import parser_of, whole_number
 from ..errors import lacking
 from .worker import Limits, Workers
 
@@ -27,29 +27,15 @@ ENDS = (signal.SIGINT, signal.SIGTERM, signal.SIGHUP)  # end the server
 
 
 def words() -> argparse.Namespace:
-    parser = argparse.ArgumentParser(prog="net_desk", description=DESCRIPTION, epilog=EPILOG,
-                                     formatter_class=argparse.RawDescriptionHelpFormatter)
+    parser = parser_of("net_desk", DESCRIPTION, EPILOG, is_laid_out=True)
     parser.add_argument("files", nargs="*", metavar="FILE", type=Path, help="files that the page shows at once")
-    parser.add_argument("--port", type=port, default=0, metavar="N", help="listen there; at a free port where none is given")
+    parser.add_argument("--port", type=whole_number(1, 65_535), default=0, metavar="N", help="listen there; at a free port where none is given")
     parser.add_argument("--no-browser", action="store_true", help="print the address alone")
-    parser.add_argument("--seconds", type=number(1, 86_400), default=Limits.seconds, metavar="N",
+    parser.add_argument("--seconds", type=whole_number(1, 86_400), default=Limits.seconds, metavar="N",
                         help="of work on one file or net, at most (%(default)s)")
-    parser.add_argument("--memory", type=number(256, 1 << 26), default=Limits.memory >> 20, metavar="MB",
+    parser.add_argument("--memory", type=whole_number(256, 1 << 26), default=Limits.memory >> 20, metavar="MB",
                         help="of one file or net, at most (%(default)s)")
     return parser.parse_args()
-
-
-def number(least: int, most: int) -> Callable[[str], int]:
-    """What reads a whole number within bounds."""
-    def read(text: str) -> int:
-        if not text.isdecimal() or not least <= int(text) <= most:
-            raise argparse.ArgumentTypeError(f"{text!r} is not from {least} to {most}")
-        return int(text)
-    return read
-
-
-def port(text: str) -> int:
-    return number(1, 65_535)(text)
 
 
 def main() -> int:

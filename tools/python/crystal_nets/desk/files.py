@@ -8,11 +8,11 @@ from pathlib import PurePosixPath
 from typing import Any
 
 from ..errors import NotANet
+from ..kinds import kind_of
 from ..net import Net
 from ..other_forms import is_json
 from ..reading import holds_structure, net_of_chunk, read, unpacked
 from ..texts.net_text import chunk_at, chunks_of
-from ..kinds import kind_of
 
 MOST_NETS = 20_000  # of a file; net_table takes more
 MOST_BYTES = 64 * 2**20  # of a file, unpacked

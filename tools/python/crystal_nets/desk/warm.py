@@ -10,7 +10,7 @@ from . import questions  # noqa: F401
 from .archives import shelves
 
 for name in ("pictures.page", "pictures.svg", "pictures.view", "structures.conversion", "structures.reading.given",
-             "blocks.converter"):
+             "blocks.converter", "blocks.expansion", "blocks.symbolic"):
     with contextlib.suppress(ImportError):  # a worker that needs it says which package is missing
         importlib.import_module(f"..{name}", __package__)
 with contextlib.suppress(CrystalNetsError, OSError):

@@ -9,5 +9,6 @@ view        from which side a net is seen, and how much of it
 svg, page   the two forms of pictures that are written
 embedding   the net as a crystal: its group in the usual setting, nodes and edges up to the group
 crystal_text  the crystal as a block CRYSTAL, and as a CIF
+drawn       what is written of the nets of a report
 command     the command draw_nets
 gallery     the command net_gallery: a page for each archive"""

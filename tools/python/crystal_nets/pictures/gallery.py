@@ -9,6 +9,7 @@ import signal
 import sys
 from pathlib import Path
 
+from ..command_line import parser_of, whole_number
 from ..archive import default_files, files_of
 from ..wide.archive import SUFFIX
 from ..errors import NotAnArchive, ProgramFailed
@@ -18,7 +19,7 @@ from ..texts.archive_text import entries_of
 from ..texts.graph_text import text_of_graph
 from ..texts.net_text import NetReport, nets_of_report
 
-from .command import Wanted, draw, number_of_jobs
+from .command import MOST_JOBS
 
 EPILOG = """exit status: 0 each net is drawn; 1 some net has no picture, or a file is no archive; 2 usage; else that of
 net_tool. NET_TOOL is the program; where it is not set, the one of this installation or
@@ -26,10 +27,10 @@ repository, or net_tool on the path."""
 
 
 def words() -> argparse.Namespace:
-    parser = argparse.ArgumentParser(prog="net_gallery", description=__doc__, epilog=EPILOG)
+    parser = parser_of("net_gallery", __doc__, EPILOG)
     parser.add_argument("folder", metavar="FOLDER", type=Path, help="made where it is not there")
-    parser.add_argument("archives", metavar="ARCHIVE", nargs="*", type=Path, help="an archive, or a folder of them")
-    parser.add_argument("--jobs", metavar="N", type=number_of_jobs, default=processors(),
+    parser.add_argument("archives", metavar="ARCHIVE", nargs="*", type=Path, default=[], help="an archive, or a folder of them")
+    parser.add_argument("--jobs", metavar="N", type=whole_number(1, MOST_JOBS), default=processors(),
                         help="processes side by side, as many as processors where it is not given")
     return parser.parse_args()
 
@@ -37,6 +38,7 @@ def words() -> argparse.Namespace:
 def main() -> int:
     signal.signal(signal.SIGINT, signal.SIG_DFL)
     asked = words()
+    from .drawn import Wanted, draw  # whose packages no help needs
     known = files_of(asked.archives) if asked.archives else default_files()
     files = [file for file in known if file.suffix != SUFFIX]  # nets without a key have no picture
     if not files:

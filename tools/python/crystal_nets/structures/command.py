@@ -5,7 +5,6 @@ from __future__ import annotations
 import argparse
 import gc
 import multiprocessing
-import os
 import re
 import signal
 import sys
@@ -15,17 +14,18 @@ from concurrent.futures import Future, ProcessPoolExecutor
 from concurrent.futures.process import BrokenProcessPool
 from functools import partial
 from itertools import islice
+from typing import TYPE_CHECKING
 
+from ..command_line import add_switches, parser_of, whole_number
 from ..errors import NotAnOption
 from ..files import telling_text
-from ..options import elements_of, lengths_of, twice_given
+from ..options import CHOICES, SWITCHES, elements_of, lengths_of, told_idle, twice_given
 from ..progress import Progress
-from .bonds.listed import BY_RULES, WAYS
-from .bonds.rules import INTERMETALLIC
-from .nets.choice import ZEOLITE, Options
-from .units.conventions import AUTO_BY_DEFAULT, convention_named
-from .conversion import Conversion, Source, read_and_convert
-from .files import files_of, sources_of
+from ..side_by_side import processors
+
+if TYPE_CHECKING:  # for words alone, as --help, no package is loaded that reads structures
+    from .conversion import Conversion, Source
+    from .nets.choice import Options
 
 DESCRIPTION = """The underlying nets of crystal structures, for net_tool: reads CIF files, and all of a folder,
 and writes a block PERIODIC_GRAPH for each net to standard output. What a reader should know of
@@ -33,7 +33,6 @@ a net, and why a file gives none, goes to standard error."""
 EPILOG = """exit status: 0 a net of each file was written; 1 of some file none was; 2 usage, or notes that
 could not be written.
 example: cif2cgd quartz.cif | net_tool identify - --archive common.archive"""
-MODES = (ZEOLITE, INTERMETALLIC)
 DONE, SOME_REFUSED, USAGE = 0, 1, 2
 OBJECTS_BETWEEN = 200_000  # that are made until the collector of garbage looks again
 PORTION = 8       # files that a process reads at a time
@@ -41,38 +40,28 @@ PORTIONS_AHEAD = 4  # for each process
 
 
 def words() -> argparse.Namespace:
-    parser = argparse.ArgumentParser(
-        prog="cif2cgd", description=DESCRIPTION, epilog=EPILOG,
-        formatter_class=argparse.RawDescriptionHelpFormatter)
+    parser = parser_of("cif2cgd", DESCRIPTION, EPILOG, is_laid_out=True)
     parser.add_argument("files", nargs="+", metavar="FILE",
                         help="a CIF file, a folder of them, or - for standard input")
     parser.add_argument("--leave-out", default=frozenset(), metavar="ELEMENTS", type=elements,
                         help="atoms of no concern, as Na,Cl")
     parser.add_argument("--bond", action="append", default=[], type=pair_and_length, metavar="A-B=LENGTH",
                         help="of these two elements, bonds up to the length and no others (0: none)")
-    parser.add_argument("--keep-ions", action="store_true",
-                        help="keep the cations that a framework holds as guests")
-    parser.add_argument("--convention", default=AUTO_BY_DEFAULT, type=convention, metavar="NAME",
+    conventions = parser.add_mutually_exclusive_group()
+    conventions.add_argument("--convention", default="", type=convention, metavar="NAME",
                         help="what is a vertex: all-atoms, single-nodes, all-nodes, pe, pem, standard; auto gives "
                         "those that apply and differ (where none is named: auto for organic carbon with metals, else "
                         "all-atoms)")
-    parser.add_argument("--mode", default="", choices=MODES, metavar="MODE",
+    parser.add_argument("--mode", default="", choices=list(filter(None, CHOICES["mode"])), metavar="MODE",
                         help="zeolite: tetrahedral atoms and their oxygens alone; intermetallic: all contacts up to "
                         "a gap")
-    parser.add_argument("--bonds", default=BY_RULES, choices=WAYS, metavar="WAY",
+    parser.add_argument("--bonds", default="rules", choices=CHOICES["bonds"], metavar="WAY",
                         help="rules (where none is named), file for those of _geom_bond, or both, to see where they "
                         "differ")
-    parser.add_argument("--clusters", action="store_const", dest="convention", const="single-nodes",
-                        help="the same as --convention single-nodes")
-    parser.add_argument("--hydrogen-bonds", action="store_true",
-                        help="hydrogen bonds are edges (in ices they always are)")
-    parser.add_argument("--partial-as-full", action="store_true",
-                        help="take partly occupied atoms of a net as full")
-    parser.add_argument("--accept-misfit", action="store_true",
-                        help="take atoms that do not fit the formula, or are too near")
-    parser.add_argument("--every-copy", action="store_true",
-                        help="write each of several nets of the same atoms")
-    parser.add_argument("--jobs", type=number_of_jobs, default=1, metavar="N",
+    conventions.add_argument("--clusters", action="store_const", dest="convention", const="single-nodes",
+                             help="the same as --convention single-nodes")
+    add_switches(parser)
+    parser.add_argument("--jobs", type=whole_number(0, 9999), default=1, metavar="N",
                         help="read files in N processes; what is written is the same (0: one a processor)")
     parser.add_argument("--notes", metavar="FILE", help="write what is told as JSON, one line a file")
     parser.add_argument("--quiet", action="store_true", help="tell no more than doubts, what a net has not, and why a file "
@@ -80,6 +69,8 @@ def words() -> argparse.Namespace:
     asked = parser.parse_args()
     if pair := twice_given(asked.bond):
         parser.error(f"--bond gives {pair} several lengths")
+    if idle := told_idle({**vars(asked), "lengths": asked.bond}):
+        parser.error(idle)
     return asked
 
 
@@ -91,6 +82,7 @@ def elements(text: str) -> frozenset[str]:
 
 
 def convention(text: str) -> str:
+    from .units.conventions import convention_named
     try:
         return convention_named(text)
     except ValueError as reason:
@@ -108,18 +100,10 @@ def pair_and_length(text: str) -> tuple[frozenset[str], float]:
     return pair
 
 
-def number_of_jobs(text: str) -> int:
-    if not re.fullmatch(r"\d{1,4}", text, re.ASCII):
-        raise argparse.ArgumentTypeError(f"{text!r} is no number of processes")
-    return int(text) or len(os.sched_getaffinity(0))
-
-
 def options_of(asked: argparse.Namespace) -> Options:
-    return Options(
-        leave_out=asked.leave_out, lengths=dict(asked.bond),
-        keep_ions=asked.keep_ions, hydrogen_bonds=asked.hydrogen_bonds,
-        partial_as_full=asked.partial_as_full, accept_misfit=asked.accept_misfit,
-        every_copy=asked.every_copy, convention=asked.convention, mode=asked.mode, bonds=asked.bonds)
+    from .nets.choice import Options
+    return Options(leave_out=asked.leave_out, lengths=dict(asked.bond), convention=asked.convention, mode=asked.mode,
+                   bonds=asked.bonds, **{name: getattr(asked, name) for name in SWITCHES})
 
 
 def main() -> int:
@@ -127,6 +111,7 @@ def main() -> int:
     signal.signal(signal.SIGINT, signal.SIG_DFL)
     gc.set_threshold(OBJECTS_BETWEEN)
     asked = words()
+    from .files import files_of, sources_of
     sources = sources_of(list(files_of(asked.files, partial(print, file=sys.stderr))))
     try:
         notes = telling_text(asked.notes) if asked.notes else None
@@ -135,7 +120,7 @@ def main() -> int:
         return USAGE
     refused = 0
     with Progress("cif2cgd", len(sources), "files") as bar:
-        for done in conversions(sources, options_of(asked), asked.jobs):
+        for done in conversions(sources, options_of(asked), asked.jobs or processors()):
             bar.tell(done.told(asked.quiet))
             sys.stdout.buffer.write(done.text)
             if notes:
@@ -169,6 +154,7 @@ def conversions(sources: list[Source], options: Options, jobs: int) -> Iterator[
 
 
 def convert_portion(sources: Iterable[Source], options: Options, stdin: bytes) -> Iterator[Conversion]:
+    from .conversion import read_and_convert
     return (read_and_convert(source, options, stdin) for source in sources)
 
 
@@ -181,6 +167,7 @@ def result_of(portion: list[Source], future: Future) -> list[Conversion]:
     try:
         return future.result()
     except BrokenProcessPool:
+        from .conversion import Conversion
         ended = [Conversion(source) for source in portion]
         for done in ended:
             done.refuse(done.source.label, "a process of cif2cgd was ended from outside; ask for fewer --jobs")

@@ -10,10 +10,9 @@ from typing import NamedTuple
 
 from ..files import walked
 from ..kinds import is_passed_over, told_passed_over
-from ..other_forms import is_poscar_of_folder, stem_of
+from ..other_forms import stem_of
+from ..reading import STRUCTURE_SUFFIXES, is_structure_file
 from .conversion import Source
-
-SUFFIXES = (".cif", ".mcif", ".mmcif", ".vasp", ".poscar", ".contcar", ".xyz", ".extxyz")  # of the files of a folder
 
 
 class Given(NamedTuple):
@@ -33,17 +32,11 @@ def files_of(arguments: Iterable[str], tell: Callable[[str], object] = lambda li
         away: list[OSError] = []
         passed: list[str] = []
         for folder, names in walked(argument, away.append):
-            yield from (Given(os.path.join(folder, name), True) for name in names if is_structure(name))
-            passed += [name for name in names if is_passed_over(name, SUFFIXES)]
+            yield from (Given(os.path.join(folder, name), True) for name in names if is_structure_file(name))
+            passed += [name for name in names if is_passed_over(name, STRUCTURE_SUFFIXES)]
         if passed:
             tell(f"{argument}: {told_passed_over(passed)}")
         yield from (Given(os.fsdecode(fault.filename), True) for fault in away)
-
-
-def is_structure(name: str) -> bool:
-    """Whether a file of this name is one of a structure."""
-    plain = name.lower().removesuffix(".gz")
-    return plain.endswith(SUFFIXES) or is_poscar_of_folder(plain)
 
 
 def sources_of(files: list[Given]) -> list[Source]:

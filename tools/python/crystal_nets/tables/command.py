@@ -18,16 +18,18 @@ from functools import partial
 from pathlib import Path
 from typing import Any
 
+from ..command_line import add_switches, parser_of, whole_number
 from ..archive import Archive, default_files, files_of as archive_files
 from ..progress import Progress
 from ..errors import CrystalNetsError, ProgramFailed, in_words
 from ..files import write_whole
-from ..options import CHOICES, twice_given
+from ..reading import SUFFIXES
+from ..options import CHOICES, SWITCHES, option_word, told_idle, twice_given
 from ..side_by_side import bind_programs, end_with_parent, processors
 from .join import FILES, join
 from .parquet import need_pyarrow, write_parquet
 from .piece import make_rows, path_of, rows_of
-from .plan import Failed, Plan, SourceAway, check_source, files_of, plan_of, read_plan, state_of
+from .plan import WHOLE, Failed, Plan, Settings, SourceAway, check_source, files_of, plan_of, read_plan, state_of
 
 DESCRIPTION = """The table of all nets of a source: a folder of structure files (.cif and others) and files of nets (.cgd,
 .arc), each packed by gzip or not, or one such file, with any number of nets. FOLDER gets table.tsv, a line for each net;
@@ -37,13 +39,11 @@ EPILOG = """exit status: 0 each net has a key; 1 some net has none; 2 usage; 3 n
 ended from outside; 75 a file of the source cannot be read now, or for lack of a package of Python, and the same command
 tries again; else that of net_tool.
 NET_TOOL is the program; where it is not set, the one of this installation or repository, or net_tool on the path.
-example: net_table structures results --jobs 4 --archive archives"""
+example: net_table structures results --jobs 4"""
 SOME_REFUSED, USAGE, FAILED = 1, 2, 3
+MOST_SECONDS = 1_000_000  # of a net
 TRY_AGAIN = 75  # EX_TEMPFAIL of sysexits.h
 ELSEWHERE = "take another folder, or remove it"
-SWITCHES = {"keep_ions": "keep the cations that a framework holds as guests", "hydrogen_bonds": "hydrogen bonds are edges",
-            "partial_as_full": "take partly occupied atoms as full", "accept_misfit": "take atoms that cannot be right",
-            "every_copy": "each of several nets of the same atoms"}
 
 
 class OtherWords(Exception):
@@ -51,8 +51,7 @@ class OtherWords(Exception):
 
 
 def words() -> argparse.Namespace:
-    parser = argparse.ArgumentParser(prog="net_table", usage="net_table [options] [SOURCE] FOLDER", description=DESCRIPTION, epilog=EPILOG,
-                                     formatter_class=argparse.RawDescriptionHelpFormatter)
+    parser = parser_of("net_table", DESCRIPTION, EPILOG, usage="net_table [options] [SOURCE] FOLDER", is_laid_out=True)
     parser.add_argument("paths", metavar="[SOURCE] FOLDER", nargs="+", type=Path,
                         help="FOLDER alone takes up what is planned there")
     parser.add_argument("--archive", metavar="PATH", action="append", type=Path,
@@ -65,9 +64,9 @@ def words() -> argparse.Namespace:
                         help="no placement and no sequences, which takes less time")
     parser.add_argument("--topology", action="store_true", help="point symbols, vertex symbols, td10 and transitivity too: "
                         "computed beside the program and not proved, in some 0.05 to 1.5 s a net")
-    parser.add_argument("--jobs", metavar="N", type=number_of_jobs, default=processors(),
+    parser.add_argument("--jobs", metavar="N", type=whole_number(1, 1024), default=processors(),
                         help="processes side by side, as many as processors where it is not given")
-    parser.add_argument("--seconds", metavar="N", type=number_of_seconds,
+    parser.add_argument("--seconds", metavar="N", type=whole_number(1, MOST_SECONDS),
                         help="for each net, after which its row is stopped; without it there is no limit")
     parser.add_argument("--parquet", action="store_true", help="write table.parquet and so on too, by pyarrow")
     parser.add_argument("--plan", action="store_true", help="write the plan alone, for --part")
@@ -81,8 +80,7 @@ def words() -> argparse.Namespace:
     structures.add_argument("--bond", action="append", default=[], type=pair_and_length, metavar="A-B=LENGTH",
                             help="of these two elements, bonds up to the length and no others (0: none)")
     structures.add_argument("--leave-out", metavar="ELEMENTS", help="atoms of no concern, as Na,Cl")
-    for name, text in SWITCHES.items():
-        structures.add_argument("--" + name.replace("_", "-"), action="store_true", help=text)
+    add_switches(structures)
     asked = parser.parse_args()
     if len(asked.paths) > 2:
         parser.error("give a SOURCE and a FOLDER, or a FOLDER alone")
@@ -90,6 +88,8 @@ def words() -> argparse.Namespace:
         parser.error(f"--bond gives {pair} several lengths")
     if asked.leave_out is not None and not asked.leave_out.replace(",", " ").split():
         parser.error(f"--leave-out {asked.leave_out!r} is not as Na,Cl")
+    if idle := told_idle({**vars(asked), "lengths": asked.bond}):
+        parser.error(idle)
     _check_together(parser, asked)
     return asked
 
@@ -102,18 +102,6 @@ def _check_together(parser: argparse.ArgumentParser, asked: argparse.Namespace) 
         without = [other for other, is_other in others.items() if is_given and is_other]
         if without:
             parser.error(f"{without[0]} has no effect with {one}")
-
-
-def number_of_jobs(text: str) -> int:
-    if not text.isdecimal() or not 1 <= int(text) <= 1024:
-        raise argparse.ArgumentTypeError(f"{text!r} is not from 1 to 1024")
-    return int(text)
-
-
-def number_of_seconds(text: str) -> int:
-    if not text.isdecimal() or not 1 <= int(text) <= 1_000_000:
-        raise argparse.ArgumentTypeError(f"{text!r} is not from 1 to 1000000")
-    return int(text)
 
 
 def pair_and_length(text: str) -> tuple[str, float]:
@@ -130,7 +118,7 @@ def part(text: str) -> tuple[int, int]:
     return int(first), int(step)
 
 
-def settings_of(asked: argparse.Namespace, source: Path) -> dict[str, Any]:
+def settings_of(asked: argparse.Namespace, source: Path) -> Settings:
     """What the rows depend on beside the state of the source."""
     options: dict[str, Any] = {name: True for name in SWITCHES if getattr(asked, name)}
     options |= {name: getattr(asked, name) for name in ("convention", "mode", "bonds") if getattr(asked, name)}
@@ -159,30 +147,42 @@ def planned(asked: argparse.Namespace, folder: Path, work: Path) -> Plan:
     source = asked.paths[0]
     files = files_of(source, tell=partial(print, file=sys.stderr))
     if not files:
-        raise Failed(f"{source} has no files .cif, .mcif, .cgd or .arc")
-    state = state_of(files)
-    plan = plan_of(files, {**settings_of(asked, source), "state": state})
+        raise Failed(f"{source} has no files of structures or nets: {', '.join(SUFFIXES)}")
+    settings = settings_of(asked, source)
+    settings["state"] = state_of(files)
+    plan = plan_of(files, settings)
     check_source(plan)
     work.mkdir(parents=True, exist_ok=True)
     write_whole(path, plan.content)
     return plan
 
 
-def _place(settings: dict[str, Any]) -> str:
+def _place(settings: Settings) -> str:
     """The path of a source, which may be given from several folders."""
     return os.path.normpath(os.path.join(str(settings["at"]), str(settings["source"])))
 
 
-def words_of(settings: dict[str, Any]) -> dict[str, Any]:
+def option_words(options: dict[str, Any]) -> dict[str, Any]:
+    """The options of structures by the words of the command line, with their values."""
+    return {option_word(name): value for name, value in options.items()}
+
+
+def words_of(settings: Settings) -> dict[str, Any]:
     """The options that settings are made of, with their values."""
     switches = {"--keys-alone": settings["command"] == "key", "--topology": settings["topology"]}
     given = {"--seconds": settings["seconds"], **{word: True for word, is_given in switches.items() if is_given}}
-    named = {"lengths": "--bond"}
-    given |= {named.get(name, "--" + name.replace("_", "-")): value for name, value in settings["options"].items()}
+    given |= option_words(settings["options"])
     return {word: value for word, value in given.items() if value is not None}
 
 
-def _check_words(plan: Plan, settings: dict[str, Any], folder: Path, is_whole: bool) -> None:
+def tell_idle_options(plan: Plan) -> None:
+    """Tells options of structures where the source has files of nets alone, for which they do nothing."""
+    given = option_words(plan.settings["options"])
+    if given and not any(portion.kind == WHOLE for piece in plan.pieces for portion in piece):
+        print(f"net_table: without effect, since the source has no structures: {', '.join(given)}", file=sys.stderr)
+
+
+def _check_words(plan: Plan, settings: Settings, folder: Path, is_whole: bool) -> None:
     """OtherWords where a plan is not of the options that are given, or, where these are whole, of others too."""
     known, given = words_of(plan.settings), words_of(settings)
     for word in sorted({*known, *given} if is_whole else given):
@@ -252,6 +252,8 @@ def archive_of(asked: argparse.Namespace) -> Archive | None:
 def make_table(asked: argparse.Namespace) -> int:
     folder = asked.paths[-1]
     work = folder / "work"
+    if folder.exists() and not folder.is_dir():
+        raise Failed(f"{folder} is a file; the FOLDER for the table stands after the SOURCE")
     if asked.part:
         plan = planned(asked, folder, work)
         numbers = list(range(asked.part[0], len(plan.pieces) + 1, asked.part[1]))
@@ -260,6 +262,7 @@ def make_table(asked: argparse.Namespace) -> int:
         need_pyarrow()
     with alone(work):
         plan = planned(asked, folder, work)
+        tell_idle_options(plan)
         if asked.plan:
             print(f"{folder}: {len(plan.pieces)} pieces")
             return 0

@@ -7,7 +7,6 @@ import os
 from collections.abc import Iterable, Iterator
 from io import BytesIO
 from pathlib import Path
-from typing import Any
 
 from ..answers import Answer, short_outcome
 from ..asking import answered_in_time, identify_all, keys
@@ -18,7 +17,7 @@ from ..reading import net_of_chunk, nets_of_file
 from ..texts.net_text import chunks_of
 from .columns import OF_A_PIECE, escaped, joined, line_of
 from .listed import NOTHING, listed
-from .plan import AFTER_ITEM, FORM, WHOLE, Piece, Plan, Portion, has_topology
+from .plan import AFTER_ITEM, FORM, WHOLE, Piece, Plan, Portion, Settings, has_topology
 
 Found = tuple[str, Net]  # the file, and a net of it
 
@@ -38,7 +37,7 @@ def make_rows(path: Path, piece: Piece) -> list[str]:
     return lacking
 
 
-def _answers(nets: list[Net], settings: dict[str, Any]) -> list[Answer]:
+def _answers(nets: list[Net], settings: Settings) -> list[Answer]:
     """The answers; that to a net which takes more than its seconds is stopped."""
     def ask(some: list[Net]) -> Iterable[Answer]:
         return identify_all(some, archive=None) if settings["command"] == "identify" else keys(some)
@@ -67,7 +66,7 @@ def _head(mark: str, rows: bytes, lacks: bool) -> bytes:
     return f"{FORM} {mark}{' lacks' * lacks} {hashlib.sha256(rows).hexdigest()}\n".encode()
 
 
-def nets_of_portion(portion: Portion, settings: dict[str, Any], lacking: list[str]) -> list[Found]:
+def nets_of_portion(portion: Portion, settings: Settings, lacking: list[str]) -> list[Found]:
     """The nets of a portion. What is in no form is a refusal in its place, and so is what needs a package that is missing,
     which is told beside; what cannot be read now is none."""
     missed: list[str] = []
@@ -78,7 +77,7 @@ def nets_of_portion(portion: Portion, settings: dict[str, Any], lacking: list[st
     return [(portion.path, net) for net in nets]
 
 
-def _nets_of(portion: Portion, content: bytes, settings: dict[str, Any], missed: list[str]) -> Iterator[Net]:
+def _nets_of(portion: Portion, content: bytes, settings: Settings, missed: list[str]) -> Iterator[Net]:
     """The nets. The lines that open their blocks are counted in the whole file. What is said where a package is missing
     is told beside, too."""
     if portion.kind == WHOLE:

@@ -10,7 +10,7 @@ from collections.abc import Callable, Iterator
 from dataclasses import dataclass, field
 from functools import cached_property
 from pathlib import Path
-from typing import Any, NamedTuple, NoReturn
+from typing import Any, NamedTuple, NoReturn, NotRequired, TypedDict
 
 from ..errors import in_words
 from ..files import GZIP, encoding_of, walked
@@ -41,7 +41,26 @@ class SourceAway(Exception):
         return cls(f"{in_words(fault)}; the same command tries again")
 
 
-def has_topology(settings: dict[str, Any]) -> bool:
+class Settings(TypedDict):
+    """What the rows of a plan depend on, as JSON has it.
+
+    source    as it was given, from the folder `at`
+    options   of structures, by their names in `StructureOptions`
+    seconds   for each net; None where there is no limit
+    topology  whether what databases list is asked for
+    command   `key` or `identify`
+    state     of the source: a sum of the names, sizes and times of its files"""
+
+    source: str
+    at: str
+    options: dict[str, Any]
+    seconds: int | None
+    topology: bool
+    command: str
+    state: NotRequired[str]
+
+
+def has_topology(settings: Settings) -> bool:
     """Whether what databases list is asked for."""
     return bool(settings.get("topology"))
 
@@ -77,7 +96,7 @@ class Piece:
     """What one process does at a time: portions of files, and with which settings; the mark is that of the plan."""
 
     portions: list[Portion]
-    settings: dict[str, Any]
+    settings: Settings
     mark: str
 
 
@@ -85,7 +104,7 @@ class Piece:
 class Plan:
     """The settings, and the portions of each piece in their order. It does not change once its mark was asked for."""
 
-    settings: dict[str, Any]
+    settings: Settings
     pieces: list[list[Portion]] = field(default_factory=list)
 
     @cached_property
@@ -115,8 +134,9 @@ def read_plan(path: Path) -> Plan:
     try:
         head, *rest, _ = content.decode("ascii").split("\n")[:-1]
         settings = json.loads(head)
+        form = settings.pop("form")
         plan = Plan(settings, [[Portion(*portion) for portion in json.loads(line)] for line in rest])
-        is_right = settings.pop("form") == FORM and plan.content == content
+        is_right = form == FORM and plan.content == content
     except (ValueError, TypeError, KeyError, AttributeError, RecursionError):
         is_right = False
     if not is_right:
@@ -183,7 +203,7 @@ def state_of(files: list[Path], at: str = "") -> str:
     return told.hexdigest()[:16]
 
 
-def plan_of(files: list[Path], settings: dict[str, Any]) -> Plan:
+def plan_of(files: list[Path], settings: Settings) -> Plan:
     """The plan for these files."""
     plan = Plan(settings)
     piece: list[Portion] = []

@@ -17,9 +17,11 @@ LONGEST_NUMBER = 4000  # digits of a shift that are read
 UNWRITABLE = re.compile(r'["\x00-\x1f\x7f]')
 BLANKS = rb"[ \t\v\f\r]+"
 END = rb'([+-]?\d+|"[^"\n]*")' + BLANKS  # of an edge: a vertex
-ROW = re.compile(rb"(?:(?:EDGES?|BONDS?)" + BLANKS + rb")?" + END + END + rb"([+-]?\d+(?:" + BLANKS + rb"[+-]?\d+)*)",
+ROW = re.compile(rb"(?:(EDGES?|BONDS?)" + BLANKS + rb")?" + END + END + rb"([+-]?\d+(?:" + BLANKS + rb"[+-]?\d+)*)",
                  re.IGNORECASE)
 NO_ROW = re.compile(rb"(?i)(PERIODIC_GRAPH|NAME|ID|EDGES?$|BONDS?$|END)\b")
+EDGES = b"EDGES"
+ONCE = {b"PERIODIC_GRAPH", b"NAME"}  # in a block
 PLAIN_INTEGER = re.compile(rb"-?(?:0|[1-9]\d*)")
 SMALL_INTEGER = re.compile(r"0|[1-9][0-9]{0,8}")
 
@@ -34,25 +36,40 @@ def text_of_graph(graph: QuotientGraph) -> bytes:
 
 def graph_of_text(block: bytes, name: str = "") -> QuotientGraph:
     """The graph of one block. Vertices are numbered as they appear, as the program numbers them. NotANet where a line is
-    no row."""
+    no row that the program reads: it opens a second block, is a second name, or stands under no EDGES."""
     number: dict[bytes, int] = {}
     edges = []
+    heads: set[bytes] = set()
     for count, text in enumerate(block.splitlines(), start=1):
-        row = _row_of(text, count)
+        row = _row_of(text, count, heads)
         if row is not None:
-            u, v = (number.setdefault(word, len(number)) for word in row.groups()[:2])
-            edges.append(Edge(u, v, _shift_of(row[3], count)))
+            u, v = (number.setdefault(word, len(number)) for word in row.groups()[1:3])
+            edges.append(Edge(u, v, _shift_of(row[4], count)))
     dimension = len(edges[0].shift) if edges else 0
     return QuotientGraph(tuple(map(vertex_of, number)), tuple(edges), dimension, name)
 
 
-def _row_of(line: bytes, number: int) -> re.Match[bytes] | None:
-    """The row of a line; None where it has none."""
+def _row_of(line: bytes, number: int, heads: set[bytes]) -> re.Match[bytes] | None:
+    """The row of a line; None where it has none. In `heads` are the words that stand once in a block, and stood, and EDGES
+    where rows may follow."""
     text = _without_comment(line).strip()
     row = ROW.fullmatch(text)
-    if row is None and text and not NO_ROW.match(text):
+    head = None if row else NO_ROW.match(text)
+    word = _keyword(row[1] if row else head[1] if head else b"")
+    if text and (word in heads & ONCE or not word and (row is None or EDGES not in heads)):
         raise NotANet(f"line {number} of the block is no row: {text[:60].decode(errors='replace')!r}")
+    if word == EDGES:
+        heads.add(EDGES)
+    elif word in ONCE:
+        heads -= {EDGES}
+        heads.add(word)
     return row
+
+
+def _keyword(word: bytes | None) -> bytes:
+    """One word for all that mean the same, in capital letters; empty where there is none."""
+    upper = (word or b"").upper()
+    return b"NAME" if upper == b"ID" else EDGES if upper.startswith((b"EDGE", b"BOND")) else upper
 
 
 def _shift_of(text: bytes, line: int) -> Vector:

@@ -9,6 +9,6 @@ symmetries  the automorphisms of a net, and its kinds of vertices and edges
 listed      Topology: all of it of one net
 command     net_topology: of the nets of files"""
 
-from .listed import Topology, VertexKind, topology_of
+from .listed import Topology, VertexKind, topology_of, topology_or_reason
 
-__all__ = ["Topology", "VertexKind", "topology_of"]
+__all__ = ["Topology", "VertexKind", "topology_of", "topology_or_reason"]

@@ -11,18 +11,18 @@ import sys
 from collections.abc import Iterator
 from pathlib import Path
 
+from ..command_line import parser_of
 from ..errors import NotANet, PackageMissing, in_words
 from ..net import Net
 from ..reading import read
 from ..tables.columns import escaped
-from .listed import Topology, topology_of
+from .listed import Topology, topology_or_reason
 
 HEAD = ("source", "name", "point_symbol", "vertex_symbols", "td10", "transitivity")
 
 
 def words() -> argparse.Namespace:
-    parser = argparse.ArgumentParser(prog="net_topology", description=__doc__,
-                                     epilog="exit status: 0 all was told; 1 something was not; 2 usage.")
+    parser = parser_of("net_topology", __doc__, "exit status: 0 all was told; 1 something was not; 2 usage.")
     parser.add_argument("files", metavar="FILE", nargs="+", help="nets or structures, or a folder of them")
     parser.add_argument("--json", action="store_true", help="a line of JSON for each net, with each kind of vertex")
     return parser.parse_args()
@@ -34,11 +34,10 @@ def main() -> int:
     if not asked.json:
         print("\t".join(HEAD))
     for file, net in nets_of(asked.files):
-        found = topology_of(net.graph) if not net.refusal else None
-        reasons = [net.refusal or "the net is not connected, or takes too long"] if found is None else []
-        for reason in (*net.provenance.told, *reasons):
-            print(f"net_topology: {file}: {net.name or '?'}: {reason}".encode(errors="replace").decode(), file=sys.stderr)
-        if found is None:
+        found = topology_or_reason(net)
+        for text in (*net.provenance.told, *([found] if isinstance(found, str) else [])):
+            print(f"net_topology: {file}: {net.name or '?'}: {text}".encode(errors="replace").decode(), file=sys.stderr)
+        if isinstance(found, str):
             missing += 1
         else:
             print(json.dumps({"source": file, "name": net.name, **found.to_dict()}) if asked.json else row_of(file, net, found))

@@ -9,8 +9,10 @@ from functools import reduce
 from math import gcd
 from typing import Any
 
+from ..errors import NotANet
 from ..graph import QuotientGraph
 from ..lattice import add, index, staircase, subtract
+from ..net import Net
 from ..wide.placed import NotFound, PlacedNet
 from ..wide.primitive import primitive_net
 from ..wide.walking import Work
@@ -20,6 +22,7 @@ from .symmetries import Symmetries, symmetries
 
 SHELLS = 10
 MOST_WORK = 20_000_000  # arcs that are followed for one net
+NOT_THERE = "the net is not connected, or takes too long"
 
 
 @dataclass(frozen=True)
@@ -88,16 +91,31 @@ class Topology:
 
 
 def topology_of(graph: QuotientGraph, most_work: int = MOST_WORK) -> Topology | None:
-    """What databases list of a net; None where it is not connected, or the search takes too long.
+    """What databases list of a net; None where the graph is of none, or of one that is not connected, or the search takes
+    too long.
 
     >>> from crystal_nets import Net
     >>> dia = topology_of(Net([(1, 2, (0, 0, 0)), (1, 2, (1, 0, 0)), (1, 2, (0, 1, 0)), (1, 2, (0, 0, 1))]).graph)
     >>> dia.point_symbol, dia.kinds[0].vertex_symbol, int(dia.td10), dia.transitivity
     ('6^6', '6(2).6(2).6(2).6(2).6(2).6(2)', 981, '11')"""
+    if graph.fault:
+        return None
     try:
         return _topology_of(graph, Work(most_work))
     except NotFound:
         return None
+
+
+def topology_or_reason(net: Net) -> Topology | str:
+    """What databases list of a net, or why that is not told: it is no net, or not connected, or the search takes too
+    long."""
+    if net.refusal:
+        return net.refusal
+    try:
+        graph = net.graph
+    except NotANet as fault:
+        return str(fault)
+    return graph.fault or topology_of(graph) or NOT_THERE
 
 
 def _is_connected(graph: QuotientGraph) -> bool:

@@ -118,8 +118,6 @@ def _graph_of_large_cell(net: Net) -> QuotientGraph:
     graph = net.graph.canonical()
     if len(graph.vertices) > MOST_VERTICES or len(graph.edges) > MOST_EDGES:
         raise NotFound(f"a cell of more than {MOST_VERTICES:,} vertices or {MOST_EDGES:,} edges is not looked at")
-    if graph.dimension not in (2, 3) or any(len(one.shift) != graph.dimension for one in graph.edges):
-        raise NotANet("its shifts have several lengths")
-    if any(one.u == one.v and not any(one.shift) for one in graph.edges):
-        raise NotANet("an edge joins a vertex to itself in one cell")
+    if graph.fault:
+        raise NotANet(graph.fault)
     return graph

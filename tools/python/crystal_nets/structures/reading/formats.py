@@ -16,7 +16,7 @@ from ...errors import PackageMissing, lacking
 from ...kinds import kind_of
 from ...other_forms import is_json, is_poscar
 from ...provenance import DROPPED, Note
-from ...reading import CIF_SUFFIXES
+from ...reading import CIF_SUFFIXES, XYZ_SUFFIXES
 from ...refusal import Refused
 from ..atoms.crystal import Crystal
 from .document import blocks_of, text_of_file
@@ -24,7 +24,6 @@ from .given import bounded_cell, crystal_of_atoms
 from .poscar import as_ase_reads
 from .structure import read_crystal
 
-XYZ_SUFFIXES = (".xyz", ".extxyz")
 OF_PYMATGEN = "the JSON of a structure, which net_table and the module crystal_nets read"
 
 
