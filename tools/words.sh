@@ -245,11 +245,12 @@ answer_help() {
         exit 2
         ;;
     esac
-    is_command "${1:-}" || return 0
+    positional_words "$@"
+    is_command "$command_given" || return 0
     for word in "$@"; do
         case $word in
         --) break ;;
-        -h | --help) one_command "$1" && exit 0 ;; # no word that the program takes, and no value of an option
+        -h | --help) one_command "$command_given" && exit 0 ;; # no word that the program takes, and no value of an option
         esac
     done
 }

@@ -11,7 +11,7 @@ from kinds import Kinds, cif_text, cubic  # noqa: E402
 from crystal_nets.refusal import Refused  # noqa: E402
 from crystal_nets.structures.atoms.elements import element_of  # noqa: E402
 from crystal_nets.structures.bonds.lengths import shortest_of_nonmetals  # noqa: E402
-from crystal_nets.structures.bonds.rules import find_bonds  # noqa: E402
+from crystal_nets.structures.bonds.rules import INTERMETALLIC, find_bonds  # noqa: E402
 from crystal_nets.structures.reading.document import blocks_of  # noqa: E402
 from crystal_nets.structures.reading.structure import read_crystal  # noqa: E402
 
@@ -28,6 +28,16 @@ class Doubts(Kinds):
         text = cif_text(cubic(6.0), [("Cs1", "Cs", 0, 0, 0), ("Au1", "Au", 0.5, 0.5, 0.5)], name="P m -3 m")
         self.assertIn("Au-Cs 5.20 taken, longer than a bond", self.doubts(text))
         self.assertEqual(self.doubts(text.replace("6.00000", "4.26000")), "")
+
+    def test_a_long_bond_of_a_metal_and_a_nonmetal_is_one_by_gaps_as_by_radii(self):
+        """Pb-O 2.90 of a cubic perovskite, which the rules take; 3.54 is none."""
+        for edge, doubt in ((4.10, ""), (5.0, "O-Pb 3.54 taken, longer than a bond")):
+            text = cif_text(cubic(edge), [("Pb1", "Pb", 0, 0, 0), ("Ti1", "Ti", 0.5, 0.5, 0.5), ("O1", "O", 0.5, 0.5, 0)],
+                            name="P m -3 m")
+            crystal, doubts = read_crystal(blocks_of(text.encode(), "test")[0]), []
+            find_bonds(crystal, False, {}, doubts, mode=INTERMETALLIC)
+            self.assertEqual(doubt in doubts, bool(doubt), doubts)
+            self.assertEqual(any("longer" in told for told in doubts), bool(doubt), doubts)
 
     def test_a_volume_that_is_not_that_of_the_cell_is_told(self):
         silicon = cif_text(cubic(5.431), [("Si1", "Si", 0.125, 0.125, 0.125)], name="F d -3 m:2")

@@ -80,11 +80,14 @@ class Kinds(FolderTest):
         packed.write_bytes(lzma.compress(CAESIUM_CHLORIDE.encode()))
         protein = self.folder / "b.gro"
         protein.write_text("water\n 1\n    1WAT  OW1    1   0.126   1.624   1.679\n   1.8   1.8   1.8\n")
+        molecule = self.folder / "d.cml"
+        molecule.write_text('<?xml version="1.0"?>\n<molecule/>\n')
         structure = self.folder / "c.json"
         structure.write_text('{"lattice": {}, "sites": []}')
         told = run(COMMAND, structure, status=1).stderr
         self.assertIn(b"it is the JSON of a structure, which net_table and the module crystal_nets read", told)
         for file, told in ((packed, "it is a file packed by xz: unpack it first"),
+                           (molecule, "it is a CML file, which is not read: make a CIF of it"),
                            (protein, "it is a file of GROMACS, which is not read: make a CIF of it")):
             done = run(COMMAND, file, status=1)
             self.assertEqual(done.stderr.decode(), f"{file.name}: refused: {told}\n")
@@ -93,8 +96,9 @@ class Kinds(FolderTest):
 
     def test_a_text_of_blocks_is_one_whatever_its_name(self):
         file = self.folder / "nets.gro"
-        file.write_text("PERIODIC_GRAPH\nNAME sql\nEDGES\n1 1 1 0\n1 1 0 1\nEND\n")
-        self.assertEqual([net.name for net in read(file)], ["sql"])
+        for comment in ("", " # the square lattice"):
+            file.write_text(f"PERIODIC_GRAPH{comment}\nNAME sql\nEDGES\n1 1 1 0\n1 1 0 1\nEND\n")
+            self.assertEqual([net.name for net in read(file)], ["sql"])
 
     def test_what_is_passed_over_in_a_folder_is_told(self):
         (self.folder / "a.cif").write_text(CAESIUM_CHLORIDE)
@@ -109,9 +113,17 @@ class Kinds(FolderTest):
         names = ("POSCAR", "POSCAR.2", "POSCAR_03", "CONTCAR.relaxed", "x_POSCAR", "y.vasp")
         for name in (*names, "make_poscar.py", "POSCAR.md", "postcar"):
             (self.folder / name).write_text(self.POSCAR)
+        for name in ("POSCAR.cgd", "x_CONTCAR.cgd", "POSCAR.net"):
+            (self.folder / name).write_text("# nets that were made of a POSCAR\n")
         found = re.findall(rb'NAME "?([^"\n]*)', run(COMMAND, "--quiet", self.folder).stdout)
         self.assertEqual(sorted(found), sorted(name.removesuffix(".vasp").encode() for name in names))
         self.assertEqual({net.name for net in read(self.folder)}, {name.removesuffix(".vasp") for name in names})
+
+    def test_a_cif_that_is_made_of_a_poscar_has_its_name(self):
+        file = self.folder / "POSCAR.cif"
+        file.write_text(CAESIUM_CHLORIDE)
+        self.assertIn(b'NAME "POSCAR"\n', run(COMMAND, file).stdout)
+        self.assertEqual([net.name for net in read(file)], ["POSCAR"])
 
 
 class Words(FolderTest):

@@ -69,7 +69,7 @@ class Installed(FolderTest):
             more = self.told(f"net_tool help {command}", 0)[0].decode()
             self.assertRegex(more, rf"^{command} .*\n(.*\n)?Status 0")
             self.assertEqual(self.told(f"net_tool {command} --help", 0)[0].decode(), more)
-            for words in (f"{command} x --help", f"{command} --archive x -h --name y"):
+            for words in (f"{command} x --help", f"{command} --archive x -h --name y", f"--archive x {command} -h"):
                 self.assertEqual(self.told(f"net_tool {words}", 0)[0].decode(), more)
         self.assertEqual(self.told("net_tool help", 0)[0].decode(), listed)
         self.assertEqual(self.told("net_tool help keys", 2)[0], b"")

@@ -2,19 +2,19 @@
 
 from __future__ import annotations
 
+import re
 from collections.abc import Sequence
 from pathlib import PurePath
 
-from .other_forms import is_poscar_of_folder
-
 NOT_READ = "which is not read: make a CIF of it"
+XML = "XML"  # of which the name may tell more, as of a CML file
 OTHERS = ((b"%PDF", "a PDF"), (b"\x89PNG", "a picture (PNG)"), (b"\xff\xd8\xff", "a picture (JPEG)"),
           (b"GIF8", "a picture (GIF)"),
           (b"PK\x03\x04", "a ZIP archive, or a file of an office program: unpack it first"),
           (b"BZh", "a file packed by bzip2: unpack it first"), (b"\xfd7zXZ", "a file packed by xz: unpack it first"),
           (b"\x28\xb5\x2f\xfd", "a file packed by zstd: unpack it first"),
           (b"\x1f\x9d", "a file packed by compress: unpack it first"), (b"7z\xbc\xaf", "a 7z archive: unpack it first"),
-          (b"\x7fELF", "a program"), (b"<!doctype html", "a page (HTML)"), (b"<html", "a page (HTML)"), (b"<?xml", "XML"),
+          (b"\x7fELF", "a program"), (b"<!doctype html", "a page (HTML)"), (b"<html", "a page (HTML)"), (b"<?xml", XML),
           (b"<svg", "a picture (SVG)"), (b"net_maps ", "a text of maps"), (b"net_archive ", "an archive of net_tool"),
           (b"HEADER    ", "a PDB file, which has no unit cell's symmetry as a CIF has: make a CIF of it"),
           (b"CRYST1 ", f"a PDB file, {NOT_READ}"), (b"TITL ", f"a file of SHELX, {NOT_READ}"),
@@ -28,6 +28,11 @@ BY_NAME = {".pdb": "a PDB file", ".ent": "a PDB file", ".res": "a file of SHELX"
            ".cell": "an input of CASTEP", ".gen": "a file of DFTB+", ".fdf": "an input of SIESTA", ".cube": "a cube file"}
 PACKED = (".xz", ".bz2", ".zip", ".zst", ".z", ".7z")
 MOST_SHOWN = 3
+# The names of POSCAR files in a folder, where x_poscar.py is a script, and the endings of what stands beside them.
+POSCAR_OF_FOLDER = re.compile(r"(?i)(?:poscar|contcar)(?:[._-][\w()+-]+)*|[\w()+-]+[._-](?:poscar|contcar)")
+NO_POSCAR = frozenset((*BY_NAME, *PACKED, *(f".{ending}" for ending in (
+    "py sh pl m r c f f90 txt md log out in err dat csv tsv yaml yml toml json xml htm html pdf png jpg jpeg svg eps tar bak "
+    "swp cif mcif mmcif xyz extxyz cgd arc net maps rows archive index").split())))
 
 
 def kind_of(content: bytes, name: str = "") -> str:
@@ -35,12 +40,18 @@ def kind_of(content: bytes, name: str = "") -> str:
     begin = content[:64].lstrip().lower()
     found = next((kind for mark, kind in OTHERS if begin.startswith(mark.lower())), "")
     by_name = BY_NAME.get(_ending(name), "")
-    return found or (by_name and f"{by_name}, {NOT_READ}")
+    return f"{by_name}, {NOT_READ}" if by_name and found in ("", XML) else found
 
 
 def is_of_other_kind(name: str) -> bool:
     """Whether a name is that of a structure of a kind that is not read."""
     return _ending(name) in BY_NAME
+
+
+def is_poscar_of_folder(name: str) -> bool:
+    """Whether a file of a folder is a POSCAR by its name alone, as POSCAR_01, CONTCAR.relaxed or quartz_POSCAR, and not
+    one of another kind that is named after a POSCAR, as POSCAR.cgd."""
+    return POSCAR_OF_FOLDER.fullmatch(name) is not None and PurePath(name.lower()).suffix not in NO_POSCAR
 
 
 def is_passed_over(name: str, endings: tuple[str, ...]) -> bool:

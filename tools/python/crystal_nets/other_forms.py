@@ -11,10 +11,6 @@ from typing import Any
 from .errors import NotANet, PackageMissing, lacking
 
 POSCAR_NAME = re.compile(r"(?i)(?:.*[._-])?(?:poscar|contcar)(?:[._-].*)?|.*\.(?:vasp|poscar|contcar)")
-# The same in a folder, where x_poscar.py is a script.
-POSCAR_OF_FOLDER = re.compile(r"(?i)(?:poscar|contcar)(?:[._-][\w()+-]+)*|[\w()+-]+[._-](?:poscar|contcar)")
-NO_POSCAR = re.compile(r"(?i).*\.(?:py|sh|pl|m|r|c|txt|md|log|out|json|xml|html?|pdf|png|jpe?g|svg|eps|tar|bak|swp"
-                       r"|xz|bz2|zip|zst|z|7z)")
 NUMBER = r"[-+]?(?:\d+\.?\d*|\.\d+)(?:[eEdD][-+]?\d+)?"
 POSCAR = re.compile(rf"[^\n]*\n[ \t]*{NUMBER}[ \t]*\n(?:[ \t]*{NUMBER}(?:[ \t]+{NUMBER}){{2}}[^\n]*\n){{3}}")
 
@@ -24,18 +20,6 @@ def is_poscar(name: str, content: bytes) -> bool:
     if POSCAR_NAME.fullmatch(PurePath(name).name):
         return True
     return POSCAR.match(content[:4096].decode("latin-1").replace("\r\n", "\n")) is not None
-
-
-def is_poscar_of_folder(name: str) -> bool:
-    """Whether a file of a folder is a POSCAR by its name alone, as POSCAR_01, CONTCAR.relaxed or quartz_POSCAR."""
-    return POSCAR_OF_FOLDER.fullmatch(name) is not None and NO_POSCAR.fullmatch(name) is None
-
-
-def stem_of(name: str) -> str:
-    """A name without its ending; that of POSCAR.2 stays, as it is no ending of a format."""
-    path = PurePath(name)
-    is_ending = path.suffix.lower() in (".vasp", ".poscar", ".contcar") or not is_poscar_of_folder(path.name)
-    return path.stem if is_ending else path.name
 
 
 def is_json(content: bytes) -> bool:

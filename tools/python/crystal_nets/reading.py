@@ -16,10 +16,9 @@ from typing import TYPE_CHECKING, Any, Unpack
 
 from .errors import NotANet, PackageMissing, lacking
 from .files import GZIP, checked_path, content_of_file, in_plain_bytes
-from .kinds import is_of_other_kind
+from .kinds import is_of_other_kind, is_poscar_of_folder
 from .net import TOO_LONG, Net
-from .other_forms import (is_json, is_poscar, is_poscar_of_folder, is_structure, stem_of, structure_of_fields,
-                          structure_of_json)
+from .other_forms import is_json, is_poscar, is_structure, structure_of_fields, structure_of_json
 from .options import BLOCK_PACKAGES, STRUCTURE_PACKAGES, StructureOptions, check_names, checked_options
 from .provenance import REFUSED, Note, notes_of
 from .texts.net_text import (BYTE_ORDER_MARK, FIRST_TOKEN, HEADER, MOST_BYTES, OPENERS, OTHER_TEXTS, Chunk, chunks_of,
@@ -33,7 +32,7 @@ if TYPE_CHECKING:
     from .structures.atoms.crystal import Crystal
 
 CIF = re.compile(rb"(?im)^[ \t]*(?:data_|_cell_|_atom_site_)")
-NETS = re.compile(rb"(?im)^[ \t]*(?:(?:PERIODIC_GRAPH|CRYSTAL|NET|TILING)[ \t\r]*$|key[ \t]+\d)")
+NETS = re.compile(rb"(?im)^[ \t]*(?:(?:PERIODIC_GRAPH|CRYSTAL|NET|TILING)[ \t\r]*(?:#|$)|key[ \t]+\d)")
 CIF_SUFFIXES = (".cif", ".mcif", ".mmcif")
 XYZ_SUFFIXES = (".xyz", ".extxyz")
 STRUCTURE_SUFFIXES = (*CIF_SUFFIXES, ".vasp", ".poscar", ".contcar", *XYZ_SUFFIXES)  # all but those of CIF are for ase
@@ -135,6 +134,13 @@ def is_known(file: str) -> bool:
 def is_structure_file(file: str) -> bool:
     """Whether a file of this name is one of a structure, packed by gzip or not."""
     return _suffix_of(file) in STRUCTURE_SUFFIXES or is_poscar_of_folder(PurePath(file).name.removesuffix(".gz"))
+
+
+def stem_of(name: str) -> str:
+    """A name without its ending; that of POSCAR.2 stays, as it is no ending of a format."""
+    path = PurePath(name)
+    is_ending = path.suffix.lower() in STRUCTURE_SUFFIXES or not is_poscar_of_folder(path.name)
+    return path.stem if is_ending else path.name
 
 
 def holds_structure(content: bytes, file: str) -> bool:

@@ -154,6 +154,13 @@ class Answers(FolderTest):
                              ("edges", "it has no edges"), ("end", "line 5 of the block is no row: 'PERIODIC_GRAPH'")):
             self.assertIn(f"net_topology: {file}: {name}: {reason}\n", told)
 
+    def test_what_has_no_net_is_told(self):
+        (self.folder / "a.pdb").touch()
+        (self.folder / "empty.cgd").touch()
+        done = run(TOOLS / "batch/net_topology", self.folder, status=1)
+        self.assertEqual(done.stderr.decode(), f"net_topology: {self.folder}: passed over, of kinds that are not read: a.pdb\n"
+                         f"net_topology: {self.folder}: ?: it has no net\n")
+
     def test_in_a_table(self):
         need_program()
         try:

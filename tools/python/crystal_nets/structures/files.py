@@ -10,8 +10,7 @@ from typing import NamedTuple
 
 from ..files import walked
 from ..kinds import is_passed_over, told_passed_over
-from ..other_forms import stem_of
-from ..reading import STRUCTURE_SUFFIXES, is_structure_file
+from ..reading import STRUCTURE_SUFFIXES, is_structure_file, stem_of
 from .conversion import Source
 
 

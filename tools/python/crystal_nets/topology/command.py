@@ -7,14 +7,17 @@ from __future__ import annotations
 
 import argparse
 import json
+import os
 import sys
 from collections.abc import Iterator
+from contextlib import suppress
 from pathlib import Path
 
 from ..command_line import parser_of
 from ..errors import NotANet, PackageMissing, in_words
+from ..kinds import is_passed_over, told_passed_over
 from ..net import Net
-from ..reading import read
+from ..reading import SUFFIXES, read
 from ..tables.columns import escaped
 from .listed import Topology, topology_or_reason
 
@@ -33,6 +36,7 @@ def main() -> int:
     missing = 0
     if not asked.json:
         print("\t".join(HEAD))
+    tell_passed_over(asked.files)
     for file, net in nets_of(asked.files):
         found = topology_or_reason(net)
         for text in (*net.provenance.told, *([found] if isinstance(found, str) else [])):
@@ -45,13 +49,22 @@ def main() -> int:
 
 
 def nets_of(files: list[str]) -> Iterator[tuple[str, Net]]:
-    """The nets of the files, each with its own; a file that cannot be read is a net that says why."""
+    """The nets of the files, each with its own; a file that cannot be read, or has none, is a net that says why."""
     for file in files:
         try:
-            for net in read(Path(file)):
-                yield net.provenance.file or file, net
+            nets = read(Path(file))
         except (OSError, NotANet, PackageMissing) as fault:
-            yield file, Net.refused(in_words(fault))
+            nets = [Net.refused(in_words(fault))]
+        yield from ((net.provenance.file or file, net) for net in nets or [Net.refused("it has no net")])
+
+
+def tell_passed_over(files: list[str]) -> None:
+    """Tells the structures of folders that are of kinds that are not read."""
+    for folder in filter(os.path.isdir, files):
+        with suppress(OSError):  # which is told as a file that cannot be read
+            passed = [name for name in sorted(os.listdir(folder)) if is_passed_over(name, SUFFIXES)]
+            if passed:
+                print(f"net_topology: {folder}: {told_passed_over(passed)}", file=sys.stderr)
 
 
 def row_of(file: str, net: Net, found: Topology) -> str:

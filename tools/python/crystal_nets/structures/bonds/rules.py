@@ -14,7 +14,7 @@ from .hydrogen import hydrogen_bridges
 from .ices import hydrate_bonds, ice_bonds, is_ice
 from .lengths import SHARE, shortest_of_metal, shortest_of_nonmetals
 from .metals import is_metal_rich, may_be_joined, metal_pairs
-from .shells import COVALENT, ROUNDING, shell_bonds
+from .shells import COVALENT, ROUNDING, STRETCHED, shell_bonds
 from ...graph import Edge
 from ...lattice import add
 
@@ -23,7 +23,6 @@ Lengths = dict[frozenset[str], float]  # of a pair of elements, the longest bond
 INTERMETALLIC = "intermetallic"  # the mode in which all contacts count, by the gaps between them
 
 POLAR = 0.50      # angstrom above the sum of the radii: the longest bond of a metal and a nonmetal
-STRETCHED = 0.80  # the same where it is among the shortest of the atom
 NEARLY = 1.10     # times the shortest from the same atom to the same element
 CLOSE = 0.05      # from one of these bounds, or less: told as a doubt
 # Two oxygens or fluorines that are not joined are at least so far from each other, in angstrom: it

@@ -13,6 +13,7 @@ SHELL_CLOSE = 0.02  # from that step, or less: told as a doubt
 COVALENT = 0.30     # angstrom above the sum of the radii: the longest bond of two nonmetals
 LONG = 0.50         # angstrom above the radii: neighbours in a nonmetal that are farther are told as a doubt
 FAR = 1.3           # times the sum of the radii: a metal whose nearest is farther is told; it is 1.20 in lead
+STRETCHED = 0.80    # angstrom above the radii: the longest bond of a metal and a nonmetal, as Pb-O in cubic perovskites
 ROUNDING = 1e-6     # angstrom
 SOFT = frozenset("Li Na K Rb Cs Fr Ca Sr Ba Ra".split())
 
@@ -48,7 +49,8 @@ def _too_long(elements: list[str], nearest: Contact, farthest: Contact) -> set[s
         one, other = sorted((elements[contact.first], elements[contact.second]))
         radii = radius(one) + radius(other)
         is_metallic = is_metal(one) or is_metal(other)
-        is_long = contact is nearest and contact.length > FAR * radii if is_metallic else contact.length > radii + LONG
+        most = max(FAR * radii, radii + STRETCHED) if is_metallic else radii + LONG
+        is_long = contact.length > most and (contact is nearest or not is_metallic)
         found |= {f"{one}-{other} {contact.length:.2f} taken, longer than a bond"} if is_long else set()
     return found
 
