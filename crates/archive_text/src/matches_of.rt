@@ -66,7 +66,7 @@ impl<'a, 'k> Matches<'a, 'k> {
         }
     }
 
-    /// The next name, and None exactly where all were given.
+    /// The next name, and None if and only if all were given.
     pub fn next(&mut self) -> Option<&'a [u8]>
         ensures { MatchOption result (self.old ≡ []) (λ name. self.old ≡ name.now ∷ self.new) }
     {

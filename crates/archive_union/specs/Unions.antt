@@ -53,7 +53,7 @@ IsFoundBy Same a items b = (G : Graph) (key : List ℤ) (e : EntryView) → IsGr
     → Contains (names_with key b.entries) e.name
 
 -- What the union b of the archive a and of items is. Its names are exactly those of the archive and of the items, each once, with a graph
--- of its own entry or item. Entries with equal keys stand together, and two keys are equal exactly where the nets are isomorphic. A graph
+-- of its own entry or item. Entries with equal keys stand together, and two keys are equal if and only if the nets are isomorphic. A graph
 -- whose net is isomorphic to that of an entry or item is found, by its key, under that entry's or item's name among others. All of this
 -- holds by bijections with a period and by any.
 pub record HasAll (a : ArchiveView) (items : List EntryView) (b : ArchiveView) : Type 0 where

@@ -1,6 +1,6 @@
 -- A solution modulo M and one of what is left of it, in rows: two steps, whose reconstructions are the normal placement. What two solutions by residues
 -- recover: the normal placement, where it is within the limits. What is left modulo M: exact quotients, and rows that are made one after another. The
--- answers of `place` exclude each other: NoModulus comes exactly where its cause holds.
+-- answers of `place` exclude each other: NoModulus comes if and only if its cause holds.
 use Rattle.std.proofs.Common.{◌≡◌, ℕ, zero, suc, arith, ◌-◌, ◌<◌, ◌^◌, List, [], ◌∷◌, length, map, get_or, ap, sym, refl, ◌∙◌, Option, Some, None, ⊎_elim}
 use Rattle.std.proofs.Common.{◌+◌, ◌≤◌, subst, IsTrue, nat_eq, rules, ◌*◌, unsigned_abs, ◌%◌, FitsSigned, pos, to_z, of_z, ℤ, ◌++◌, inl, inr}
 use Rattle.std.proofs.lemmas.Option.{get_or_from_slice_get, slice_get_within, slice_get-get_or}

@@ -53,7 +53,7 @@ after_walk h = or_else (defaults_fault (settled rules_list h).rows rules_list) (
 after_none : (h : Held) → after_walk h ≡ []
 after_none h = ap (λ (k : Kinds). or_else k (check_fault top (finished rules_list h) false)) (no_faults rules_list (settled rules_list h).rows no_defaults)
 
--- clap has no fault exactly where it takes the arguments
+-- clap has no fault if and only if it takes the arguments
 pub fault_none : (words : List Text) → AreTaken start words → fault_of grammar words ≡ []
 fault_none words p = level words
     ∙ past _ _ p.turns

@@ -23,6 +23,8 @@ pub data Task : Type 0 where
   Identify : Text → Option Text → Task
   -- to report what its components are
   Components : Text → Task
+  -- to report what its symmetries are
+  Symmetry : Text → Task
   -- to add the nets of a file to the archive where one is named, the first under this name
   Add : Text → Option Text → Option Text → Task
   -- to find the nets that stand in an archive more than once
@@ -47,6 +49,7 @@ file_named (Place file) = Some file
 file_named (Key file) = Some file
 file_named (Identify file archive) = Some file
 file_named (Components file) = Some file
+file_named (Symmetry file) = Some file
 file_named (Add file archive name) = Some file
 file_named (Duplicates archive) = None
 file_named (Migrate archive) = None
@@ -63,6 +66,7 @@ archive_named (Place file) = None
 archive_named (Key file) = None
 archive_named (Identify file archive) = archive
 archive_named (Components file) = None
+archive_named (Symmetry file) = None
 archive_named (Add file archive name) = archive
 archive_named (Duplicates archive) = Some archive
 archive_named (Migrate archive) = Some archive
@@ -95,7 +99,8 @@ verb_named word =
     (if bytes_eq word (codes "place") then Some verb.Place else
     (if bytes_eq word (codes "key") then Some verb.Key else
     (if bytes_eq word (codes "identify") then Some verb.Identify else
-    (if bytes_eq word (codes "components") then Some verb.Components else archive_verb word))))
+    (if bytes_eq word (codes "components") then Some verb.Components else
+    (if bytes_eq word (codes "symmetry") then Some verb.Symmetry else archive_verb word)))))
 
 -- the argument stands, and is empty
 abbrev pub is_empty_word : Option Text → Bool
@@ -178,6 +183,7 @@ task_with verb.Place said = option_map Place (sole_file said)
 task_with verb.Key said = option_map Key (sole_file said)
 task_with verb.Identify said = identify_in said
 task_with verb.Components said = option_map Components (sole_file said)
+task_with verb.Symmetry said = option_map Symmetry (sole_file said)
 task_with verb.Add said = add_in said
 task_with verb.Duplicates said = option_map Duplicates (sole_archive said)
 task_with verb.Migrate said = option_map Migrate (sole_archive said)

@@ -28,6 +28,7 @@ blocks_view (blocks.Place file) = task.Place file.now
 blocks_view (blocks.Key file) = task.Key file.now
 blocks_view (blocks.Identify file archive) = task.Identify file.now (option_copied archive)
 blocks_view (blocks.Components file) = task.Components file.now
+blocks_view (blocks.Symmetry file) = task.Symmetry file.now
 blocks_view (blocks.Add file archive name) = task.Add file.now (option_copied archive) (option_copied name)
 blocks_view (blocks.Duplicates archive) = task.Duplicates archive.now
 blocks_view (blocks.Migrate archive) = task.Migrate archive.now

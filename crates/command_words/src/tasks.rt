@@ -45,6 +45,10 @@ pub enum BlocksTask<'a> {
     Components {
         file: &'a str,
     },
+    /// To report of each net of a file what its symmetries are.
+    Symmetry {
+        file: &'a str,
+    },
     /// To add the nets of a file to an archive, the first under this name.
     Add {
         file: &'a str,
@@ -85,6 +89,7 @@ impl<'a> BlocksTask<'a> {
             | BlocksTask::Key { file }
             | BlocksTask::Identify { file, .. }
             | BlocksTask::Components { file }
+            | BlocksTask::Symmetry { file }
             | BlocksTask::Add { file, .. }
             | BlocksTask::Same { file }
             | BlocksTask::Cover { file, .. } => Some(file),
@@ -105,6 +110,7 @@ impl<'a> BlocksTask<'a> {
             | BlocksTask::Place { .. }
             | BlocksTask::Key { .. }
             | BlocksTask::Components { .. }
+            | BlocksTask::Symmetry { .. }
             | BlocksTask::Same { .. }
             | BlocksTask::Workload { .. }
             | BlocksTask::Cover { .. } => None,
@@ -143,6 +149,7 @@ pub(crate) enum Verb {
     Key,
     Identify,
     Components,
+    Symmetry,
     Add,
     Duplicates,
     Migrate,
@@ -200,6 +207,8 @@ fn verb_named(word: &str) -> Option<Verb>
         Some(Verb::Identify)
     } else if word == "components" {
         Some(Verb::Components)
+    } else if word == "symmetry" {
+        Some(Verb::Symmetry)
     } else {
         archive_verb(word)
     }
@@ -357,6 +366,7 @@ fn may_give_cell(verb: Verb, cell: Option<&str>) -> bool
         | Verb::Key
         | Verb::Identify
         | Verb::Components
+        | Verb::Symmetry
         | Verb::Add
         | Verb::Duplicates
         | Verb::Migrate
@@ -378,6 +388,9 @@ fn task_with<'a>(alloc: Global, verb: Verb, said: &Said<'a>) -> Result<Option<Ta
         Verb::Key => Ok(sole_file(said).map(|file| Task::OnBlocks(BlocksTask::Key { file }))),
         Verb::Identify => Ok(identify_in(said)),
         Verb::Components => Ok(sole_file(said).map(|file| Task::OnBlocks(BlocksTask::Components {
+            file,
+        }))),
+        Verb::Symmetry => Ok(sole_file(said).map(|file| Task::OnBlocks(BlocksTask::Symmetry {
             file,
         }))),
         Verb::Add => Ok(add_in(said)),
@@ -425,7 +438,7 @@ fn task_in<'a>(alloc: Global, said: &Said<'a>) -> Result<Option<Task<'a>>, NoMem
     }
 }
 
-/// The task that the arguments ask for. `Ok(None)` comes exactly where they have no form, and `Err`
+/// The task that the arguments ask for. `Ok(None)` comes if and only if they have no form, and `Err`
 /// only where memory is refused.
 pub fn task_of<'a>(alloc: Global, words: &'a [String]) -> Result<Option<Task<'a>>, NoMemory>
     ensures task { IfOk result (λ task.

@@ -37,7 +37,7 @@ module _ (G : Graph) (w : Vertex) where
   size_at_most k m n s t = rw s.count at (at_most k n s.members (apart_from_pairs s.members s.once) (λ x i. (s.exact x).0 (contains_from_in s.members x i)) t)
 
   -- a shell has one size
-  one_size : (k m n : ℕ) → IsShellSize G w k m → IsShellSize G w k n → m ≡ n
+  pub one_size : (k m n : ℕ) → IsShellSize G w k m → IsShellSize G w k n → m ≡ n
   one_size k m n s t = let a = size_at_most k m n s t in let b = size_at_most k n m t s in omega arith
 
   module _ (xs ys : List ℕ) (h : AreShellsOf G w xs) (k : AreShellsOf G w ys) where
@@ -190,7 +190,7 @@ module _ (G H : Graph) (g : IsGraph G) (h : IsGraph H) (there back : Vertex → 
   }
 
   -- the shells of a vertex have the sizes of those of its image
-  size_back : (k n : ℕ) → IsShellSize H (there w) k n → IsShellSize G w k n
+  pub size_back : (k n : ℕ) → IsShellSize H (there w) k n → IsShellSize G w k n
   size_back k n s = record {
     members = map back s.members;
     exact = λ x. ((λ c. from x (in_map back s.members x (is_in (map back s.members) x c))), (λ q. contains_from_in (map back s.members) x (into x q)));
@@ -228,7 +228,7 @@ module _ (G H : Graph) (g : IsGraph G) (h : IsGraph H) (there back : Vertex → 
 -- The lists of the vertices of a primitive graph are those of the classes.
 
 -- a cell, moved back by itself
-plus_back : (v : Vector) → plus v (opposite v) ≡ zero_vector
+pub plus_back : (v : Vector) → plus v (opposite v) ≡ zero_vector
 plus_back v = ap (λ (u : Vector). plus u (opposite v)) (sym (zero_plus v)) ∙ plus_opposite zero_vector v
 
 module _ (c : NetClasses) (cell : DividedNet) (g : IsGraph c.graph) (h : HasCell c cell) where

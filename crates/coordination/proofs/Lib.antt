@@ -4,4 +4,5 @@ pub mod Boxes
 pub mod CallerLemmas
 pub mod ClassShells
 pub mod Layers
+pub mod OtherShells
 pub mod PointShells

@@ -36,7 +36,7 @@ Parts p q = (p.class ≡ q.class) × ((p.x ≡ q.x) × ((p.y ≡ q.y) × (p.z �
 equal_from_parts : (p q : Point) → Parts p q → p ≡ q
 equal_from_parts p q (c, (x, (y, z))) = λ i. record { class = c i; x = x i; y = y i; z = z i }
 
--- the test is true exactly where points are equal
+-- the test is true if and only if points are equal
 same_decides : (p q : Point) → Decides (same_point p q) (p ≡ q)
 same_decides p q =
     Decides-like (same_point p q) (equal_from_parts p q)
@@ -45,7 +45,7 @@ same_decides p q =
     (Decides-and (int_eq p.x q.x) (int_eq p.y q.y && int_eq p.z q.z) (Decides-int_eq p.x q.x)
     (Decides-and (int_eq p.y q.y) (int_eq p.z q.z) (Decides-int_eq p.y q.y) (Decides-int_eq p.z q.z))))
 
--- the test is true exactly where a point was found
+-- the test is true if and only if a point was found
 found_decides : (found : List Point) (p : Point) → Decides (is_found found p) (IsIn found p)
 found_decides [] p = ((λ e. cannot e), (λ i. absurd i))
   where

@@ -18,5 +18,8 @@ mod spot;
 
 pub use all_classes::{Sequences, sequences};
 pub use count::{MOST_IN_SHELLS, MOST_SHELLS, shells};
-pub use laws::{each_shell_has_a_size, one_sequence, sequences_are_one, two_shells_suffice};
+pub use laws::{
+    bare_keeps_shells, definitions_have_instances, each_shell_has_a_size, one_sequence,
+    other_shells_refute, sequences_are_kept, sequences_are_one, two_shells_suffice,
+};
 pub use std::alloc::AllocError as NoMemory;

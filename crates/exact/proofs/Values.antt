@@ -186,7 +186,7 @@ same_numerator p q h k s =
 positive_equal : (d e : ℤ) → pos 0 <ℤ d → pos 0 <ℤ e → unsigned_abs d ≡ unsigned_abs e → d ≡ e
 positive_equal d e h k s = omega (arith, ints)
 
--- fractions in lowest terms are equal exactly where their values are the same
+-- fractions in lowest terms are equal if and only if their values are the same
 pub equal_decides : (n d m e : ℤ) → pos 0 <ℤ d → pos 0 <ℤ e → IsInLowestTerms (ratio n d) → IsInLowestTerms (ratio m e)
     → Decides (int_eq n m && int_eq d e) (Same 0 (ratio n d) (ratio m e))
 equal_decides n d m e p q h k =

@@ -42,7 +42,7 @@ work_true G p settled n h e K k work.NoMemory past = tt
 pub known_error : {A E : Type 0} (P : E → Type 0) (x : E) (r : Result A E) → IsErrAnd r (λ e. e ≡ x) → P x → IfErr r P
 known_error P x r k l = search arith
 
--- Accepted graphs have equal keys exactly where their nets are isomorphic.
+-- Accepted graphs have equal keys if and only if their nets are isomorphic.
 
 -- the key of a keyed net is the key of its graph
 pub key_of_graph : (n : KeyedNet) → IsKeyed n → IsKeyOf n.placed.graph n.key
@@ -50,7 +50,7 @@ key_of_graph n h =
     subst (λ (G : Graph). IsKeyOf G n.key) h.same_graph
     (record { shape = shape_of n.classes (record { placement = n.placed.placement; at = h.classes }); least = h.key })
 
--- the keys of two keyed nets are equal exactly where the nets are the same in this sense
+-- the keys of two keyed nets are equal if and only if the nets are the same in this sense
 pub nets_decide : (Same : Graph → Graph → Type 0) → KeysDecideBy Same → (m n : KeyedNet) → IsKeyed m → IsKeyed n
     → (m.key ≡ n.key) ↔ Same m.placed.graph n.placed.graph
 nets_decide Same decide m n h k = decide m.placed.graph n.placed.graph m.key n.key h.is_graph k.is_graph (key_of_graph m h) (key_of_graph n k)

@@ -26,7 +26,7 @@ pub record IsAcceptedAt (graphs : List AnyGraph) (answers : List (Result Net Ref
   pub graph : slice_index_or graphs i g ≡ g
   pub answer : slice_index_or answers i (Ok n) ≡ Ok n
 
--- the keys of two accepted graphs are equal exactly where their nets are the same in this sense
+-- the keys of two accepted graphs are equal if and only if their nets are the same in this sense
 abbrev pub KeysTell : (Graph → Graph → Type 0) → List AnyGraph → List (Result Net Refusal) → Type 0
 KeysTell Same graphs answers = (i j : ℕ) (g h : AnyGraph) (m n : Net) → IsAcceptedAt graphs answers i g m → IsAcceptedAt graphs answers j h n
     → ((net_view m).key ≡ (net_view n).key) ↔ Same (graph_view g) (graph_view h)

@@ -32,14 +32,14 @@ fn answers_to(alloc: Global, graphs: &[AnyGraph]) -> Result<Vec<Result<Net, Refu
 
 #[tactic(auto, using(crate::proofs::Truth::keys_tell, crate::proofs::Truth::keys_tell_bare))]
 /// What `identify` answers for each graph; where memory runs out for one of them, it ran out for
-/// all. The keys of two accepted graphs are equal exactly where their nets are isomorphic, by a
+/// all. The keys of two accepted graphs are equal if and only if their nets are isomorphic, by a
 /// bijection with a period or by any.
 pub fn keys_of(alloc: Global, graphs: &[AnyGraph]) -> Result<Vec<Result<Net, Refusal>>, NoMemory>
     // For each graph, in order, the net with its key, or a refusal that is true of it.
     ensures answers { IfOk result (λ answers. AreAnswers graphs.now answers.items) }
-    // Two keys are equal exactly where a periodic bijection carries one net to the other,
+    // Two keys are equal if and only if a periodic bijection carries one net to the other,
     ensures keys { IfOk result (λ answers. KeysTell Iso graphs.now answers.items) }
-    // and exactly where some bijection of the vertices joins images as the vertices are joined.
+    // and if and only if some bijection of the vertices joins images as the vertices are joined.
     ensures bare { IfOk result (λ answers. KeysTell BareIso graphs.now answers.items) }
 {
     answers_to(alloc, graphs)

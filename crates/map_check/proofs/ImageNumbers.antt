@@ -1,4 +1,4 @@
--- Numbers of vertices up to a lattice are equal exactly where the vertices differ by a member; and what holds while numbers are marked.
+-- Numbers of vertices up to a lattice are equal if and only if the vertices differ by a member; and what holds while numbers are marked.
 use Rattle.std.proofs.Common.{◌≡◌, ◌<◌, ℕ, ◌+◌, List, Bool, length, slice_index_or, sym, ap, subst, ◌∙◌, arith, ◌-◌, ◌*◌, ◌≤◌, [], ◌∷◌, ◌++◌}
 use Rattle.std.proofs.lemmas.List.{get_or_append_left, get_or_default, length-append}
 use Rattle.std.specs.Prelude.{Result, Ok, Err, Option, None, Some, IfOk, MatchOption}
@@ -63,7 +63,7 @@ module _ (d : ℕ) (S : Stairs) (shape : HasStairShape d S) where
       subst (λ (t : ℕ). t < v * size_of S) (sym h.is)
       (turned_below (x.over - 1) h.number v (size_of S) (omega arith) (cell_below x.cell h.number h.of_cell))
 
--- Images have one number exactly where one is the other, moved by the shifts.
+-- Images have one number if and only if one is the other, moved by the shifts.
 
 -- the difference of a sum and its first vector
 difference_of_sum : (a b s : Vector) → a ≡ plus b s → minus a b ≡ s

@@ -201,7 +201,7 @@ same_dimension G H f m b g h p j = by g.dimension h.dimension
     by (inr dg) (inl dh) = absurd (not_to_plane G H f m b g p j dg dh)
     by (inr dg) (inr dh) = dg ∙ sym dh
 
--- A map that is one to one, keeps degrees and takes arcs to joined vertices, joins images exactly where vertices are joined.
+-- A map that is one to one, keeps degrees and takes arcs to joined vertices, joins images if and only if vertices are joined.
 
 -- members of a list that go to members of another of the same length, no two to one, meet each
 pub each_taken : {X Y : Type 0} (S : X → Y → Type 0) (xs : List X) (ys : List Y) → AreApart xs → TakesOnce S xs ys → length xs ≡ length ys
@@ -283,11 +283,11 @@ module _ {G H : Graph} {M : PeriodicMap} {f : Vertex → Vertex} (h : IsMapOf G 
       let ends : f (end_of w c) ≡ f x = sym (end_between (f w) (f (end_of w c))) ∙ ap (end_of (f w)) r.2 ∙ end_between (f w) (f x) in
       subst (AreJoined G w) (b.once (end_of w c) x (joined_inside G h.graph w (end_of w c) i joined) j ends) joined
 
-  -- so the map joins images exactly where the vertices are joined
+  -- so the map joins images if and only if the vertices are joined
   pub joins_of_arcs : DegreesAgree G H M → ArcsAreKept G H M f → JoinsAlike G H f
   joins_of_arcs degrees kept w x i j = (joined_there kept w x i j, joined_back degrees kept w x i j)
 
--- A bijection that joins images exactly where vertices are joined keeps degrees and arcs.
+-- A bijection that joins images if and only if vertices are joined keeps degrees and arcs.
 
 module _ {G H : Graph} {M : PeriodicMap} {f : Vertex → Vertex} (h : IsMapOf G H M f) (b : IsBijection G H f) (alike : JoinsAlike G H f) where
   -- the ends of arcs go to joined vertices

@@ -1,4 +1,4 @@
--- The verdict is Yes exactly where the map is an isomorphism; what is found at places is said of vertices in the box.
+-- The verdict is Yes if and only if the map is an isomorphism; what is found at places is said of vertices in the box.
 use Rattle.std.proofs.Common.{◌≡◌, ◌≢◌, ◌⊎◌, ℕ, ◌*◌, ◌<◌, List, length, ℤ, pos, ◌+ℤ◌, ◌-ℤ◌, refl, sym, ap, subst, ◌∙◌, arith, ◌≤◌, ◌<ℤ◌, ◌≤ℤ◌, zero, suc}
 use Rattle.std.proofs.Common.{[], ◌∷◌, slice_index_or, ◌*ℤ◌}
 use Rattle.std.specs.Prelude.{◌↔◌, Result, Ok, Err, IfOk}
@@ -332,7 +332,7 @@ module _ (G H : Graph) (m : ℕ) (images : List Vertex) (rows : List Vector) (g 
   map_of : (f : Vertex → Vertex) → (G.dimension ≡ H.dimension) → IsDrawnBy G (table_for G m images rows) f → IsMapOf G H (table_for G m images rows) f
   map_of f e t = record { graph = g; other = k; same = e; table = suits_table G H m images rows g h; drawn = t }
 
-  -- Yes exactly where the map is an isomorphism
+  -- Yes if and only if the map is an isomorphism
   yes_exactly : (v : Verdict) (f : Vertex → Vertex) → IsDrawnBy G (table_for G m images rows) f → IsVerdict G H (table_for G m images rows) f v
       → (v ≡ Yes) ↔ IsIsomorphic G H (table_for G m images rows) f
   yes_exactly Yes f t s = (λ e. (tables_give_iso.exactly G H (table_for G m images rows) f (map_of f s.0 t)).0 s.1, λ p. refl)

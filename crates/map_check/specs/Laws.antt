@@ -12,13 +12,13 @@ pub record IsMapOf (G H : Graph) (M : PeriodicMap) (f : Vertex → Vertex) : Typ
   pub table : IsMapTable G H M
   pub drawn : IsDrawnBy G M f
 
--- the map is a bijection exactly where the counts agree and no image is another, moved by the shifts
+-- the map is a bijection if and only if the counts agree and no image is another, moved by the shifts
 abbrev pub TablesOfBijections : Type 0
 TablesOfBijections =
     (G H : Graph) (M : PeriodicMap) (f : Vertex → Vertex) → IsMapOf G H M f
     → IsBijection G H f ↔ (CountsAgree G H M × HasNoDouble G M)
 
--- a bijection joins images exactly where vertices are joined exactly where degrees agree and arcs are kept
+-- a bijection joins images if and only if vertices are joined, just when degrees agree and arcs are kept
 abbrev pub TablesThatJoin : Type 0
 TablesThatJoin =
     (G H : Graph) (M : PeriodicMap) (f : Vertex → Vertex) → IsMapOf G H M f → IsBijection G H f
@@ -31,13 +31,13 @@ pub record Passes (G H : Graph) (M : PeriodicMap) (f : Vertex → Vertex) : Type
   pub degrees : DegreesAgree G H M
   pub arcs : ArcsAreKept G H M f
 
--- the map is periodic, a bijection, and joins images exactly where the vertices are joined
+-- the map is periodic, a bijection, and joins images if and only if the vertices are joined
 pub record IsIsomorphic (G H : Graph) (M : PeriodicMap) (f : Vertex → Vertex) : Type 0 where
   pub period : IsPeriodic G H f M.m M.base
   pub bijection : IsBijection G H f
   pub joins : JoinsAlike G H f
 
--- a table passes exactly where its map is so, and then there is an isomorphism, which is this map
+-- a table passes if and only if its map is so, and then there is an isomorphism, which is this map
 pub record TablesGiveIso : Type 0 where
   pub exactly :
       (G H : Graph) (M : PeriodicMap) (f : Vertex → Vertex) → IsMapOf G H M f

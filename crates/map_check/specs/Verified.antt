@@ -15,8 +15,8 @@ IsTold G H m images rows verdict =
     (f : Vertex → Vertex) → IsDrawnBy G (table_for G m images rows) f
     → IsVerdict G H (table_for G m images rows) f verdict
 
--- the verdict is true of the map f that the table writes down: it says the first fault, and it is Yes exactly where f is a
--- periodic map, one to one and onto, that joins images exactly where the vertices are joined; then the nets are isomorphic, and so are their
+-- the verdict is true of the map f that the table writes down: it says the first fault, and it is Yes if and only if f is a
+-- periodic map, one to one and onto, that joins images if and only if the vertices are joined; then the nets are isomorphic, and so are their
 -- infinite graphs
 pub record IsVerified (G H : Graph) (m : ℕ) (images : List Vertex) (rows : List Vector) (verdict : Verdict) : Type 0 where
   pub told : IsTold G H m images rows verdict

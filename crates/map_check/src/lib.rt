@@ -27,19 +27,19 @@ pub use map::{BaseRows, Image, Images, PeriodicMap};
 pub use quotient_graph::NoMemory;
 pub use verdict::{MapFault, Verdict};
 
-/// The map of a table is a bijection exactly where the counts agree and no image is another, moved
+/// The map of a table is a bijection if and only if the counts agree and no image is another, moved
 /// by the shifts.
 pub fn tables_of_bijections()
     ensures theorem { TablesOfBijections }
 {}
 
-/// A bijection joins images exactly where vertices are joined exactly where degrees agree and arcs
+/// A bijection joins images if and only if vertices are joined, just when degrees agree and arcs
 /// are kept.
 pub fn tables_that_join()
     ensures theorem { TablesThatJoin }
 {}
 
-/// A table passes exactly where its map is an isomorphism.
+/// A table passes if and only if its map is an isomorphism.
 #[tactic(auto, using(crate::proofs::Theorems::tables_give_iso))]
 pub fn tables_give_iso()
     ensures theorem { TablesGiveIso }

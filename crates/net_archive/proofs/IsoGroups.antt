@@ -108,7 +108,7 @@ regrouped_archive v es now body rows m is r = record {
 
 -- The names that a key finds are those of the entries with the same net.
 
--- two keys are found equal exactly where they are
+-- two keys are found equal if and only if they are
 same_decides : (xs ys : List ℤ) → (same_key xs ys ≡ true → xs ≡ ys) × (xs ≡ ys → same_key xs ys ≡ true)
 same_decides xs ys = slice_eq-Decides Decides-int_eq xs ys (same_key xs ys) refl
 
@@ -226,7 +226,7 @@ module _ (Same : Graph → Graph → Type 0) (tell : KeysDecideBy Same) (es : Li
       let low = at.low in let place : 1 + (m - 1) ≡ m = omega (arith, low) in
       subst (IsIn (numbers_with key es)) place (in_keyed key 1 es (m - 1) e at.stands ((signed_items e.key key).1 same))
 
-  -- two entries stand in one group exactly where their nets are the same
+  -- two entries stand in one group if and only if their nets are the same
   pub groups_by : AreGroupsBy Same es groups
   groups_by m n e f a b other = (there, back)
     where

@@ -21,7 +21,7 @@ AreNamesOf G = AreNamesBy (Iso G)
 abbrev pub AreBareNamesOf : Graph → List EntryView → List (List ℕ) → Type 0
 AreBareNamesOf G = AreNamesBy (BareIso G)
 
--- the keys of two entries are equal exactly where their graphs are the same in this sense
+-- the keys of two entries are equal if and only if their graphs are the same in this sense
 abbrev pub KeysDecideArchive : (Graph → Graph → Type 0) → List EntryView → Type 0
 KeysDecideArchive Same entries = (e f : EntryView) → Contains entries e → Contains entries f → (e.key ≡ f.key) ↔ Same e.graph f.graph
 
@@ -34,7 +34,7 @@ pub record IsEntryAt (entries : List EntryView) (number : ℕ) (e : EntryView) :
 abbrev pub ShareGroup : List (List ℕ) → ℕ → ℕ → Type 0
 ShareGroup groups m n = (group : List ℕ) × Contains groups group × Contains group m × Contains group n
 
--- two entries stand in one group exactly where their graphs are the same in this sense
+-- two entries stand in one group if and only if their graphs are the same in this sense
 abbrev pub AreGroupsBy : (Graph → Graph → Type 0) → List EntryView → List (List ℕ) → Type 0
 AreGroupsBy Same entries groups =
     (m n : ℕ) (e f : EntryView) → IsEntryAt entries m e → IsEntryAt entries n f → m ≢ n → ShareGroup groups m n ↔ Same e.graph f.graph

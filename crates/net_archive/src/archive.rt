@@ -135,7 +135,7 @@ impl Archive {
     }
 
     /// The groups of two or more entries with equal keys, as rising numbers of entries from 1, in
-    /// the order of their first members. Two entries stand in one group exactly where their nets
+    /// the order of their first members. Two entries stand in one group if and only if their nets
     /// are isomorphic.
     pub fn duplicates(&self) -> Result<Vec<Vec<u32>>, NoMemory>
         // All groups of two or more entries with equal keys,

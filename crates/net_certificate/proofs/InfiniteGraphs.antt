@@ -32,7 +32,7 @@ answers_tell_graphs a b room (WideMap value) m =
 answers_tell_graphs a b room (Found map) m =
     of_table a.placed.graph b.placed.graph (shape_of a m.here) (shape_of b m.there) m.here.is_graph m.there.is_graph m.by.table
 
--- the item by an answer says that the nets are different exactly where the answer does
+-- the item by an answer says that the nets are different if and only if the answer does
 different_by : (G H : Graph) (answer : MapAnswer) → TellsGraphs G H answer → (item_by H answer ≡ Without why.Different) ↔ (¬ BareIso G H)
 different_by G H Different t = (λ e. t, λ n. refl)
 different_by G H (LongMap entries) t = (λ e. absurd (cc), λ n. absurd (n t))

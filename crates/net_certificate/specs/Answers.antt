@@ -45,7 +45,7 @@ pub record IsMapAnswer (a b : KeyedNet) (room : ℕ) (answer : MapAnswer) : Type
   pub there : IsKeyed b
   pub by : IsAnswerBy a.placed.graph b.placed.graph (shape_of a here) (shape_of b there) room answer
 
--- what an answer says of the infinite graphs: no bijection between the vertices joins images exactly where the vertices are joined, where the
+-- what an answer says of the infinite graphs: no bijection between the vertices joins images if and only if the vertices are joined, where the
 -- nets are answered to be different; and at each other answer some bijection does
 abbrev pub TellsGraphs : Graph → Graph → MapAnswer → Type 0
 TellsGraphs G H Different = ¬ BareIso G H

@@ -41,7 +41,7 @@ AreItemsOf first room [] [] = Unit {0}
 AreItemsOf first room (net ∷ nets) (item ∷ items) = IsItemOf first room net item × AreItemsOf first (room - images_in item) nets items
 AreItemsOf first room nets items = ⊥
 
--- of each net it is said that it is different exactly where no bijection between the vertices of the first net and its own joins images exactly
+-- of each net it is said that it is different if and only if no bijection between the vertices of the first net and its own joins images exactly
 -- where the vertices are joined
 abbrev pub AreToldApart : KeyedNet → List KeyedNet → List ItemView → Type 0
 AreToldApart first [] [] = Unit {0}

@@ -25,8 +25,8 @@ pub fn found_maps_pass()
     ensures theorem { FoundMapsPass }
 {}
 
-/// Two nets are answered to be different exactly where no bijection between their vertices joins
-/// images exactly where the vertices are joined.
+/// Two nets are answered to be different if and only if no bijection between their vertices joins
+/// images if and only if the vertices are joined.
 pub fn answers_tell_graphs()
     ensures theorem { AnswersTellGraphs }
 {}

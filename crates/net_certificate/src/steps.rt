@@ -9,7 +9,7 @@ ghost use Rattle.net_certificate.specs.Rows.{title_row, period_row, image_row, b
 ghost use Rattle.net_certificate.specs.Steps.{NoPeriod, NoImage, NoShift};
 
 use crate::period::period_from;
-use crate::vertex::{image_from, shift_from};
+use crate::row_numbers::{image_from, shift_from};
 use graph_rows::GraphSize;
 use line_text::Lines;
 use map_check::{Image, vertex_at};

@@ -49,7 +49,7 @@ pub record IsPart (G : Graph) (a : ℕ) (T : ℕ → Vector) (S : Stairs) (at : 
 abbrev pub image : (ℕ → ℕ) → (ℕ → Vector) → Base → Vector → Vertex → Vertex
 image at T b r w = vertex (at w.over) (plus (plus (T (at w.over)) r) (base_sum b w.cell))
 
--- the map is a bijection from the net of H onto a set of vertices of the net of G; images are joined exactly where the
+-- the map is a bijection from the net of H onto a set of vertices of the net of G; images are joined if and only if the
 -- vertices are; and it repeats
 pub record IsNetOf (G H : Graph) (K : Vertex → Type 0) (b : Base) (map : Vertex → Vertex) : Type 0 where
   pub into : (w : Vertex) → IsVertex H w → IsVertex G (map w) × K (map w)

@@ -1,3 +1,5 @@
 pub mod CallerLemmas
 pub mod Growing
 pub mod KindsTold
+pub mod TellingRows
+pub mod TellingTexts

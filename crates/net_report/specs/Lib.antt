@@ -11,3 +11,5 @@ pub mod Refusals
 pub mod Reports
 pub mod Sequences
 pub mod Statuses
+pub mod Telling
+pub mod TellingRows

@@ -7,6 +7,7 @@ mod headers;
 mod identified;
 mod keyed;
 mod keys;
+mod laws;
 mod numbers;
 mod outcome;
 mod placements;
@@ -21,9 +22,14 @@ pub use command::Command;
 pub use headers::push_quoted;
 pub use keyed::KeyedOutcomes;
 pub use keys::push_key;
+pub use laws::{
+    identified_lines_tell, key_lines_tell, name_lines_tell, placement_lines_tell,
+    primitive_lines_tell, reports_tell, sequence_lines_tell,
+};
 pub use least_key::{AnyPlaced, Refusal};
 pub use numbers::push_vertex;
 pub use outcome::{Judged, Outcome, OutcomeBody, Outcomes, Size, are_accepted};
+pub use primitives::push_primitive;
 pub use refused::{push_arc, push_refused, refused_line};
 pub use status::{Status, ending_of};
 pub use std::alloc::AllocError as NoMemory;

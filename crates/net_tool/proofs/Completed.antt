@@ -5,7 +5,7 @@ use Rattle.outside.specs.Held.{Holds}
 use Rattle.command_words.specs.Tasks.{task_of, Task, archive_named, file_named}
 use Rattle.net_tool.specs.Completeness.{HasRoom, AreWithin, AreFilesWithin, bytes_of_name}
 use Rattle.net_tool.specs.Run.{IsBroken, AreBytesOf, HasManyBytes, IsAnswer, IsAnswered, IsDue, IsDueOver, IsTooLarge}
-use Rattle.net_answers.{specs.Bytes.AreFitting, specs.Due.IsDueOn, specs.Endings.IsComplete, proofs.CallerLemmas.few_endings}
+use Rattle.answers.{specs.Bytes.AreFitting, specs.Due.IsDueOn, specs.Endings.IsComplete, proofs.CallerLemmas.few_endings}
 use Rattle.net_report.specs.declared.status.Status.TheVariants.{TooLarge}
 use Rattle.net_report.specs.declared.status.Status.{Status}
 

@@ -3,7 +3,7 @@ use Rattle.std.proofs.Common.{ℕ, List, [], Option, None, Some, unwrap_or, arit
 use Rattle.std.specs.Io.KnownBytes.{Appends}
 use Rattle.outside.specs.Held.{Holds}
 use Rattle.command_words.specs.Tasks.{Task, Identify, task_of}
-use Rattle.net_answers.{specs.Due.IsDueOn, specs.Headline.IsReported, proofs.CallerLemmas.headline_on}
+use Rattle.answers.{specs.Due.IsDueOn, specs.Headline.IsReported, proofs.CallerLemmas.headline_on}
 use Rattle.net_report.specs.declared.status.{Status.Status, Status.TheVariants.Done, Status.TheVariants.SomeRefused}
 use Rattle.net_tool.specs.Run.{AreBytesOf, IsAnswer, IsAnswered, IsDue}
 use Rattle.net_tool.specs.Headline.{HasHeadline, IsHeadlineOver}

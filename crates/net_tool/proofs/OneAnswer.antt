@@ -3,8 +3,8 @@ use Rattle.std.proofs.Common.{◌≡◌, ℕ, List, [], Option, unwrap_or, subst
 use Rattle.std.specs.Prelude.{unwrap_or}
 use Rattle.outside.specs.Held.{Holds}
 use Rattle.command_words.specs.Tasks.{Task, archive_named, file_named}
-use Rattle.net_answers.specs.Due.{IsDueWith, bytes_of, IsDueOn}
-use Rattle.net_answers.{specs.Endings.GoesWithText, proofs.CallerLemmas.one_due_answer}
+use Rattle.answers.specs.Due.{IsDueWith, bytes_of, IsDueOn}
+use Rattle.answers.{specs.Endings.GoesWithText, proofs.CallerLemmas.one_due_answer}
 use Rattle.net_report.specs.declared.status.{Status.Status, Status.TheVariants.TooLarge, Status.TheVariants.TooManyBlocks}
 use Rattle.net_tool.specs.Run.{AreBytesOf, IsDueOf, HasManyBytes, IsDueOver, IsTooLarge}
 use Rattle.net_tool.specs.Laws.{OneAnswer}

@@ -2,8 +2,8 @@
 use Rattle.std.specs.Prelude.{ℕ, ◌≡◌, ◌≤◌, List, length, Option, None, Some}
 use Rattle.outside.specs.Held.{Holds}
 use Rattle.command_words.specs.Tasks.{Task, archive_named, file_named}
-use Rattle.net_answers.specs.Bytes.{AreBytesWithin}
-use Rattle.net_answers.specs.Endings.{IsComplete}
+use Rattle.answers.specs.Bytes.{AreBytesWithin}
+use Rattle.answers.specs.Endings.{IsComplete}
 use Rattle.net_report.specs.declared.status.Status.{Status}
 use Rattle.net_report.specs.declared.status.Status.TheVariants.{ReadFault, WriteFault}
 use Rattle.net_tool.specs.Run.{IsDue}

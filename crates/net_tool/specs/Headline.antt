@@ -3,7 +3,7 @@ use Rattle.std.specs.Prelude.{ℕ, List, Option, Some}
 use Rattle.std.specs.Io.KnownBytes.{Appends}
 use Rattle.outside.specs.Held.{Holds}
 use Rattle.command_words.specs.Tasks.{Task, Identify}
-use Rattle.net_answers.specs.Headline.{Headline}
+use Rattle.answers.specs.Headline.{Headline}
 use Rattle.net_report.specs.declared.status.Status.{Status}
 use Rattle.net_tool.specs.Run.{AreBytesOf}
 

@@ -2,7 +2,7 @@
 use Rattle.std.specs.Prelude.{◌≡◌, Option, List, [], ℕ, unwrap_or}
 use Rattle.outside.specs.Held.{Holds}
 use Rattle.command_words.specs.Tasks.{Task, archive_named, file_named}
-use Rattle.net_answers.specs.Bytes.{bytes_in}
+use Rattle.answers.specs.Bytes.{bytes_in}
 use Rattle.net_tool.specs.Run.{AreBytesOf}
 use Rattle.net_tool.specs.declared.tool.Inputs.{Inputs as InputsInCode}
 

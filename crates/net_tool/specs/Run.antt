@@ -6,8 +6,8 @@ use Rattle.outside.specs.Held.{Holds, Are, HasMore}
 use Rattle.command_words.specs.Tasks.{Task, archive_named, file_named, task_of}
 use Rattle.outside.specs.declared.shelf.InFault.{InFault}
 use Rattle.outside.specs.declared.shelf.InFault.TheVariants as unread
-use Rattle.net_answers.specs.Bytes.{most_bytes}
-use Rattle.net_answers.specs.Due.{IsDueOn}
+use Rattle.answers.specs.Bytes.{most_bytes}
+use Rattle.answers.specs.Due.{IsDueOn}
 use Rattle.net_report.specs.declared.status.Status.{Status}
 use Rattle.net_report.specs.declared.status.Status.TheVariants.{Usage, ReadFault, WriteFault, TooLarge, NoMemory, TooManyBlocks}
 

@@ -1,10 +1,10 @@
 // The bytes of the files that a task names.
 ghost use Rattle.std.specs.Prelude.{◌≡◌, ◌≤◌, ℕ, IfOk, IsErrOf, option_copied};
 ghost use Rattle.outside.specs.Causes.{Rose};
-ghost use Rattle.net_answers.specs.Bytes.{bytes_in};
+ghost use Rattle.answers.specs.Bytes.{bytes_in};
 ghost use Rattle.net_tool.specs.Run.{AreBytesOf, FailedAt, HasManyBytes};
 
-use net_answers::MOST_BYTES;
+use answers::MOST_BYTES;
 use outside::{InFault, Shelf, read_whole};
 use std::alloc::Global;
 

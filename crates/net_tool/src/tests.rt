@@ -1,9 +1,9 @@
 // Runs over files in memory: the arguments, the statuses, devices that fail, and files past their
 // limits.
-mod answers;
 mod commands;
 mod devices;
 mod endings;
+mod rows;
 
 use crate::tool::run;
 use net_report::Status;

@@ -79,7 +79,7 @@ pub fn are_isomorphic(a: &Net, b: &Net) -> bool
     // By a bijection that is periodic,
     ensures isomorphic { IsTrue result ↔
         Iso (net_view a.now).placed.graph (net_view b.now).placed.graph }
-    // and by any that joins images exactly where the vertices are joined.
+    // and by any that joins images if and only if the vertices are joined.
     ensures bare { IsTrue result ↔
         BareIso (net_view a.now).placed.graph (net_view b.now).placed.graph }
 {
@@ -91,7 +91,7 @@ pub fn are_isomorphic(a: &Net, b: &Net) -> bool
 pub fn names_of<'a, 'n>(archive: &'a Archive, net: &'n Net) -> Matches<'a, 'n>
     // By a bijection that is periodic,
     ensures isomorphic { AreNamesOf (net_view net.now).placed.graph archive.now.entries result }
-    // and by any that joins images exactly where the vertices are joined.
+    // and by any that joins images if and only if the vertices are joined.
     ensures bare { AreBareNamesOf (net_view net.now).placed.graph archive.now.entries result }
 {
     archive.lookup(net.key())

@@ -2,7 +2,7 @@
 pub use Rattle.periodic_net.proofs.Translations.{leads_to, led_from, share_by, share_from, share_move, share_reflexive, share_symmetric, one_arc, one_leg}
 pub use Rattle.periodic_net.proofs.Translations.{class_arcs, joined_of_vector, same_end, stands_back, stands_by, stands_difference, translation_plus}
 pub use Rattle.periodic_net.proofs.ClassArcs.{few_class_arcs, stars_are_class_graph, stars_told, IsShape, class_in, flat_arcs, member, class_arc_of}
-pub use Rattle.periodic_net.proofs.Coarsest.{holds_next, lead_inside, cells_are_classes, before, numbered_new, numbered_old, cells_few, finer_next, grows}
+pub use Rattle.periodic_net.proofs.Coarsest.{holds_next, lead_inside, parts_are_classes, before, numbered_new, numbered_old, parts_few, finer_next, grows}
 pub use Rattle.periodic_net.proofs.nets.Walks.{closed_difference, closed_group, reached_inside, walk_back, walk_dimension, walks_add, with_itself}
 pub use Rattle.periodic_net.proofs.nets.Walks.{with_transitive, with_turned, arc_walk, arc_with, closed_generated, generator_closed, one_chosen, path_walk}
 pub use Rattle.periodic_net.proofs.nets.Walks.{arc_is_from, arc_turned, arcs_apart, both_length, edge_in, either_way, from_is_arc, one_spelling}
@@ -25,6 +25,7 @@ pub use Rattle.periodic_net.proofs.placements.OnePlacement.{gain, one_placement,
 pub use Rattle.periodic_net.proofs.{Translations.whole_translation, ClassArcs.class_arcs_shown, ClassArcs.shows_class_arc, ClassArcs.shows_one}
 pub use Rattle.periodic_net.proofs.{Coarsest.stays, Theorems.normal_placement_is_one, Theorems.translations_are_group, examples.TwoVertices.either}
 pub use Rattle.periodic_net.proofs.{examples.TwoVertices.honeycomb_normal_placement, isomorphisms.AffineMaps.image_linear}
-pub use Rattle.periodic_net.proofs.isomorphisms.Bijections.{bare_connected, bare_equivalence, bare_of_iso, bare_reflexive, bare_transitive, bare_turned}
+pub use Rattle.periodic_net.proofs.isomorphisms.Bijections.{bare_connected, bare_equivalence, bare_matching, bare_of_iso, bare_reflexive}
+pub use Rattle.periodic_net.proofs.isomorphisms.Bijections.{bare_transitive, bare_turned}
 pub use Rattle.periodic_net.proofs.isomorphisms.{BareMaps.bare_periodic, StableNets.bare_between, StableNets.bare_iso, StableNets.bare_stable}
 pub use Rattle.periodic_net.proofs.isomorphisms.{StableNets.iso_of_bare, StableNets.stable_told}

@@ -5,7 +5,7 @@ use Rattle.periodic_net.specs.Graph.{Graph, IsGraph, Vertex, IsConnected}
 use Rattle.periodic_net.specs.Maps.{IsPeriodic, IsBijection, JoinsAlike, BareIso, Iso}
 use Rattle.periodic_net.specs.Placement.{Placement, IsBarycentric, HasNoCollision, IsStable}
 
--- from a connected net to a net that has a placement without collisions, a bijection that joins images exactly where the vertices are
+-- from a connected net to a net that has a placement without collisions, a bijection that joins images if and only if the vertices are
 -- joined is periodic: the denominator of the placement is a period
 abbrev pub BareMapsArePeriodic : Type 0
 BareMapsArePeriodic = (G H : Graph) (q : Placement) → IsGraph G → IsGraph H → IsConnected G → IsBarycentric H q → HasNoCollision H q
@@ -22,7 +22,7 @@ pub record BareIsIso : Type 0 where
   pub there : (G H : Graph) → IsGraph G → IsGraph H → IsStable G → IsStable H → (e : BareIso G H) → (i : Iso G H) × (i.there ≡ e.map)
   pub back : (G H : Graph) → (i : Iso G H) → (e : BareIso G H) × (e.map ≡ i.there)
 
--- where one of two nets is stable, a bijection that joins images exactly where the vertices are joined is an isomorphism, with its period;
+-- where one of two nets is stable, a bijection that joins images if and only if the vertices are joined is an isomorphism, with its period;
 -- and then the other net is stable too
 pub record StableNetsAreTold : Type 0 where
   pub onto : (G H : Graph) → IsGraph G → IsGraph H → IsStable H → (e : BareIso G H) → (i : Iso G H) × (i.there ≡ e.map)

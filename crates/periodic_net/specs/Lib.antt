@@ -1,6 +1,6 @@
 pub mod BareLaws
 pub mod Breadth
-pub mod Cells
+pub mod Parts
 pub mod Chosen
 pub mod ClassNets
 pub mod ClassStars

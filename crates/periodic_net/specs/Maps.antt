@@ -18,7 +18,7 @@ pub record IsBijection (G H : Graph) (map : Vertex → Vertex) : Type 0 where
   pub once : (w x : Vertex) → IsVertex G w → IsVertex G x → map w ≡ map x → w ≡ x
   pub onto : (y : Vertex) → IsVertex H y → (w : Vertex) × IsVertex G w × (map w ≡ y)
 
--- the map joins images exactly where the vertices are joined
+-- the map joins images if and only if the vertices are joined
 abbrev pub JoinsAlike : Graph → Graph → (Vertex → Vertex) → Type 0
 JoinsAlike G H map = (w x : Vertex) → IsVertex G w → IsVertex G x → AreJoined G w x ↔ AreJoined H (map w) (map x)
 
@@ -34,7 +34,7 @@ pub record Iso (G H : Graph) : Type 0 where
   pub there_joins : (w x : Vertex) → IsVertex G w → IsVertex G x → AreJoined G w x → AreJoined H (there w) (there x)
   pub back_joins : (w x : Vertex) → IsVertex H w → IsVertex H x → AreJoined H w x → AreJoined G (back w) (back x)
 
--- an isomorphism of the nets as infinite graphs: a bijection between their vertices that joins images exactly where the vertices are
+-- an isomorphism of the nets as infinite graphs: a bijection between their vertices that joins images if and only if the vertices are
 -- joined. Nothing is asked of periods or dimensions
 pub record BareIso (G H : Graph) : Type 0 where
   pub map : Vertex → Vertex

@@ -14,6 +14,7 @@ pub mod keyed_nets;
 pub mod maps;
 pub mod numbers;
 pub mod placements;
+pub mod primitive_nets;
 pub mod reports;
 pub mod staircases;
 pub mod texts;

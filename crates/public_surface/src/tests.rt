@@ -8,6 +8,7 @@ mod maps;
 mod named_nets;
 mod numbers;
 mod placements;
+mod primitive_nets;
 
 use cgd_read::{Body, blocks};
 use least_key::{Net, identify};

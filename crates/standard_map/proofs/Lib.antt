@@ -7,3 +7,4 @@ pub mod OneMap
 pub mod Searching
 pub mod Sides
 pub mod Standing
+pub mod TiedFrames

@@ -25,7 +25,7 @@ pub record AreNumbered (d : ℕ) (S : Stairs) : Type 0 where
 abbrev pub RemaindersAreNumbered : Type 0
 RemaindersAreNumbered = (d : ℕ) (S : Stairs) → HasStairShape d S → AreNumbered d S
 
--- each vector has a remainder, and vectors have the same one exactly where they differ by a member
+-- each vector has a remainder, and vectors have the same one if and only if they differ by a member
 pub record RemaindersTellClasses : Type 0 where
   pub some : (d : ℕ) (S : Stairs) (v : Vector) → HasStairShape d S → HasDimension d v → (r : Vector) × IsRemainderOf d S v r
   pub same : (d : ℕ) (S : Stairs) (v w r s : Vector) → IsRemainderOf d S v r → IsRemainderOf d S w s

@@ -13,7 +13,7 @@ pub fn remainders_are_numbered()
     ensures theorem { RemaindersAreNumbered }
 {}
 
-/// Each vector has one remainder; vectors have one exactly where they differ by a member.
+/// Each vector has one remainder; vectors have one if and only if they differ by a member.
 #[tactic(auto, using(crate::proofs::Numbers::tell_classes))]
 pub fn remainders_tell_classes()
     ensures theorem { RemaindersTellClasses }

@@ -1,4 +1,4 @@
--- Bijections that join images exactly where the vertices are joined: the map back, one after another, and what isomorphisms are.
+-- Bijections that join images if and only if the vertices are joined: the map back, one after another, and what isomorphisms are.
 use Rattle.std.proofs.Common.{◌≡◌, ◌∙◌, map, ap, arith, refl, subst, sym}
 use Prim.{Dec, yes, no}
 use Rattle.periodic_net.specs.Graph.{AreJoined, Graph, IsConnected, IsGraph, IsReached, IsVertex, Vertex}
@@ -31,7 +31,7 @@ module _ (G H : Graph) (f : Vertex → Vertex) (b : IsBijection G H f) where
     onto = λ w i. let p = b.into w i in let r = back_is (f w) p in (f w, p, b.once (back (f w)) w r.0 i r.1);
   }
 
-  -- it joins images exactly where the vertices are joined
+  -- it joins images if and only if the vertices are joined
   pub back_joins : JoinsAlike G H f → JoinsAlike H G back
   back_joins alike x y i j =
       let p = back_is x i in let r = back_is y j in let s = alike (back x) (back y) p.0 r.0 in (

@@ -91,7 +91,7 @@ positions_tell G p n w x i j e = by (vertex_decided w x)
           (simp ring (omega (arith, ints, ap (λ (v : Vector). v.z) e)));
     }))
 
--- Two vertices collide exactly where their positions have one remainder modulo the denominator.
+-- Two vertices collide if and only if their positions have one remainder modulo the denominator.
 
 module _ (G : Graph) (p : Placement) where
   -- r is the position of u modulo the denominator

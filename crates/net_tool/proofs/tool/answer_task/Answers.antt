@@ -1,6 +1,6 @@
 use Rattle.std.proofs.Common.{◌∙◌}
 use Rattle.command_words.specs.Views.{task_view}
-use Rattle.net_answers.specs.Bytes.{bytes_in}
+use Rattle.answers.specs.Bytes.{bytes_in}
 use Rattle.net_tool.proofs.OneAnswer.{due_over}
 use Rattle.net_tool.proofs.tool.answer_task.Goals as goal
 

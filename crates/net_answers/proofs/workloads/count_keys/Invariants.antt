@@ -1,6 +1,0 @@
-use Rattle.std.proofs.Common.{take}
-use Rattle.net_answers.specs.{KeyLists.lists_in, Summaries.AreDifferentKeys}
-use Rattle.net_answers.proofs.workloads.count_keys.Given as goal
-
-abbrev pub invariant-loop-outcome : goal.invariant-loop-outcome
-invariant-loop-outcome l = AreDifferentKeys (take l.outcome-index l.outcomes) (lists_in l.keys)

@@ -1,5 +1,0 @@
-use Rattle.net_answers.proofs.Summaries.{put_in}
-use Rattle.net_answers.proofs.workloads.put_key.Goals as goal
-
-pub returns : goal.returns
-returns c = put_in c.args.key c.args.keys.now.keys c.insert.new.self.keys c.in_ok-insert.ensures.keys

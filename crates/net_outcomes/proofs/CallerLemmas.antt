@@ -1,3 +1,0 @@
--- The lemmas of this crate that other crates cite.
-pub use Rattle.net_outcomes.proofs.KeysDecideNets.{read_graph}
-pub use Rattle.net_outcomes.proofs.OneOutcome.{all_alike, keyed_is_accepted, one_report, one_telling, told_net, IsToldNet}

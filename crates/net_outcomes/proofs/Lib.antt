@@ -1,7 +1,0 @@
-pub mod CallerLemmas
-pub mod KeysDecideNets
-pub mod Listing
-pub mod NetOutcomes
-pub mod OneOutcome
-pub mod Printing
-pub mod Refusals

@@ -1,5 +1,0 @@
-use Rattle.net_outcomes.proofs.OneOutcome.{one_telling_of_parts}
-use Rattle.net_outcomes.proofs.laws.one_telling.Goals as goal
-
-pub returns : goal.returns
-returns c = record { theorem = one_telling_of_parts }

@@ -1,7 +1,0 @@
-use Rattle.net_outcomes.proofs.Printing.{fault_line}
-use Rattle.net_outcomes.proofs.told.tell_fault.Goals as goal
-
-pub push_fault-requires : goal.push_fault-requires
-push_fault-requires c =
-    fault_line c.args.names.now _ c.dimension_of.ensures.is_graph c.requires.names c.args.fault.now c.requires.fault
-    (c.is_told_fault.ensures c.if-not-is_told_fault.false)

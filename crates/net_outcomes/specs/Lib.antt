@@ -1,7 +1,0 @@
-pub mod ComponentLaws
-pub mod Deciding
-pub mod Laws
-pub mod Outcomes
-pub mod Reports
-pub mod Texts
-pub mod Told

@@ -1,0 +1,5 @@
+use Rattle.net_report.proofs.TellingRows as telling
+use Rattle.net_report.proofs.laws.sequence_lines_tell.Goals as goal
+
+pub returns : goal.returns
+returns c = record { theorem = telling.sequence_lines_tell }

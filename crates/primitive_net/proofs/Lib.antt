@@ -1,0 +1,4 @@
+pub mod CallerLemmas
+pub mod FewEdges
+pub mod OnePrimitive
+pub mod Primitive

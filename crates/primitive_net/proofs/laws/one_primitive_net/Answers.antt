@@ -1,0 +1,5 @@
+use Rattle.primitive_net.proofs.OnePrimitive.{one_primitive_net}
+use Rattle.primitive_net.proofs.laws.one_primitive_net.Goals as goal
+
+pub returns : goal.returns
+returns c = record { theorem = one_primitive_net }

@@ -1,5 +1,0 @@
-use Rattle.same_answers.proofs.Verified.{is_due}
-use Rattle.same_answers.proofs.verifying.verify_answer.Goals as goal
-
-pub returns-in-Ok : goal.returns-in-Ok
-returns-in-Ok c = is_due c.args.file.now c.ending_of.result c.in-Ok.checked c.in-Ok.ensures.checked c.ending_of.ensures

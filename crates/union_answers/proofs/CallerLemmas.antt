@@ -1,2 +1,0 @@
--- The lemmas of this crate that other crates cite.
-pub use Rattle.union_answers.proofs.Unions.{not_bad, one_archive_in, one_bad, many_items, one_union_due}
