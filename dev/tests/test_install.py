@@ -1,0 +1,585 @@
+"""Installing: that what is installed works where it was put, alone, and as a package."""
+
+import gzip
+import os
+import random
+import re
+import shlex
+import shutil
+import signal
+import subprocess
+import tempfile
+import time
+from pathlib import Path
+
+from testing import (PROGRAM, TOP, FolderTest, command, ends_soon, long_test, need_commands, need_modules,
+                     need_program, run)
+
+import crystal_nets.commands
+from crystal_nets.commands import commands
+
+INSTALL = TOP / "dev/install"
+PAGE = TOP / "docs/man/net_tool.1"
+EIGHT_NAMES = [b"dia, diamond", b"hcb, graphite layer", b"pcu, alpha polonium", b"srs, strontium disilicide",
+               b"LTA, zeolite A", b"qtz, quartz", b"sra, aluminium in strontium dialuminide",
+               b"ABW, zeolite Li-A of Barrer and White", b"ths, silicon in thorium disilicide"]
+
+
+def names_told(report: bytes) -> list[bytes]:
+    return [line[6:-1] for line in report.splitlines() if line.startswith(b'name "')]
+
+
+def commands_taken() -> set[str]:
+    """The commands that ./net_tool takes: the table of words.sh."""
+    table = re.search(r"(?s)\ncommand_table='(.*?)'\n", (TOP / "front/words.sh").read_text())
+    return {row.split("|")[0] for row in table[1].split("\n")}
+
+
+class Installed(FolderTest):
+    @classmethod
+    def setUpClass(cls):
+        need_program()
+        cls.root = Path(tempfile.mkdtemp(prefix="net_tools_test."))
+        cls.addClassCleanup(shutil.rmtree, cls.root, ignore_errors=True)
+        cls.install()
+        cls.prefix = cls.root / "usr/local"
+        cls.share = cls.prefix / "share/net_tool"
+        cls.module = cls.share / "python"
+        cls.path = f"{cls.prefix / 'bin'}:{os.environ['PATH']}"
+
+    @classmethod
+    def install(cls):
+        run(INSTALL / "install.sh", "/usr/local", PROGRAM, DESTDIR=str(cls.root))
+
+    def in_shell(self, command: str, status: int = 0) -> bytes:
+        """What a user's shell prints with the installed commands on its path."""
+        return run("sh", "-c", command, PATH=self.path, NET_TOOL="net_tool", status=status).stdout
+
+    def test_the_program_names_nets(self):
+        told = self.in_shell(f"net_tool identify {self.share}/examples/mystery.cgd "
+                             f"--archive {self.share}/archives/common.archive")
+        self.assertEqual(names_told(told), EIGHT_NAMES)
+
+    def told(self, command: str, status: int, stdin: bytes = b"") -> tuple[bytes, str]:
+        """Standard output and standard error of the installed command."""
+        done = run("sh", "-c", command, PATH=self.path, status=status, stdin=stdin)
+        return done.stdout, done.stderr.decode()
+
+    def test_help_and_version(self):
+        listed = self.told("net_tool --help", 0)[0].decode()
+        for command in commands_taken():
+            self.assertRegex(listed, rf"(?m)^  {command} ")
+            more = self.told(f"net_tool help {command}", 0)[0].decode()
+            self.assertRegex(more, rf"\Ausage: net_tool {command} .*\n\n[A-Z].*\n(.*\n)?\nexit status: 0 .*\nexamples: net_tool {command} .*\n          .*\n\Z")
+            self.assertEqual(self.told(f"net_tool {command} --help", 0)[0].decode(), more)
+            for words in (f"{command} x --help", f"{command} --archive x -h --name y", f"--archive x {command} -h"):
+                self.assertEqual(self.told(f"net_tool {words}", 0)[0].decode(), more)
+        self.assertEqual(self.told("net_tool help", 0)[0].decode(), listed)
+        self.assertEqual(self.told("net_tool help keys", 2)[0], b"")
+        self.assertIn("takes one command", self.told("net_tool help check key", 2)[1])
+        version = self.told("net_tool --version", 0)[0].decode()
+        self.assertIn((TOP / "TOOLCHAIN").read_text().strip(), version)
+        self.assertRegex(version, rf"^net_tool {re.escape(crystal_nets.__version__)}, commit ([0-9a-f]{{12}}|not known)")
+        output, said = self.told("net_tool", 2)
+        self.assertIn(b"usage: net_tool COMMAND", output)
+        self.assertEqual(said, "net_tool: 'net_tool help' lists the commands\n")
+
+    def test_the_examples_of_help_run(self):
+        """Two of each proved command, as they are typed in a folder with examples and archives."""
+        for name in ("examples", "archives"):
+            (self.folder / name).symlink_to(self.share / name)
+        for command in commands_taken():
+            for line in self.told(f"net_tool help {command}", 0)[0].decode().rpartition("examples: ")[2].splitlines():
+                done = run("sh", "-c", f"cd {self.folder} && {line.strip()}", PATH=self.path, status=None)
+                self.assertIn(done.returncode, (0, 1), line)  # 1 if some net of the file is refused
+                self.assertNotEqual((done.stdout, ">" in line), (b"", False), line)
+
+    def test_wrong_arguments_are_explained(self):
+        (self.folder / "x.cif").touch()
+        for words, reason in (
+                ("identfy x", "there is no command identfy"), (f"{self.folder}/x.cif", "is a file, and a command stands before it"),
+                ("key x -a y", "unknown option -a"), ("check x --archive y", "check takes no --archive"),
+                ("cover x", "cover needs --cell"), ("cover x --cell -1,0,0,1", "given as --cell=VALUE"),
+                ("cover x --cell=2,2,2", "4 or 9 whole numbers"), ("cover x --cell=1,0,0,-0", "4 or 9 whole numbers"),
+                ("key x y", "one FILE; y is one too many"), ("key -- x --help", "one FILE; --help is one too many"),
+                ("duplicates x", "duplicates takes no argument x"), ("union x", "union needs --archive"),
+                ("add x --name a --name=b", "--name is given twice"), ("add x --name=", "the value of --name is empty"),
+                ("add ''", "an argument is empty"), ("add --archive -", "cannot both be standard input"),
+                ("workload", "needs N"), ("workload 4097", "N must be from 1 to 4096"), ("key 'a\\nb' 'c\\nd'", "'c\\nd' is one too many")):
+            output, said = self.told(f"net_tool {words}", 2)
+            self.assertTrue(output.startswith(b"usage: "), words)
+            self.assertIn(reason, said, words)
+            self.assertEqual(said.count("\n"), 1, words)
+
+    def test_a_reason_is_told_of_just_those_arguments_that_are_refused(self):
+        pieces = ("check", "cover", "add", "duplicates", "x", "-", "", "--", "--cell", "--cell=1,0,0,500", "--cell=1,0,0,501",
+                  "--archive", "--archive=-", "--name=y", "-x")
+        chosen = random.Random(5)
+        script = f'. {self.share}/front/words.sh; positional_words "$@"; fault_of_words "$@"'
+        refused = 0
+        for _ in range(200):
+            words = [chosen.choice(pieces[:4]), *chosen.choices(pieces, k=chosen.randrange(4))]
+            reason = run("sh", "-c", script, "sh", *words).stdout.decode()
+            is_refused = run(PROGRAM, *words, status=None).returncode == 2
+            self.assertEqual(reason.count("\n"), is_refused, words)
+            refused += is_refused
+        self.assertTrue(80 < refused < 190, refused)
+
+    def test_a_file_that_cannot_be_read_is_named(self):
+        dia = self.share / "examples/dia.cgd"
+        for words, reason in ((f"key {self.folder}/a\\\\nb", "a\\nb': No such file or directory"), (f"key {self.folder}", ": Is a directory; 'net_tool table'"),
+                              (f"identify {dia} --archive {self.share}/archives", "archives: Is a directory; 'net_tool names'"),
+                              (f"identify {dia} --archive=absent", "absent: No such file or directory")):
+            self.assertIn(reason, self.told(f"net_tool {words}", 3)[1], words)
+
+    def test_what_is_no_archive_is_told(self):
+        examples = self.share / "examples"
+        for file, word in (("dia.cgd", "net_tool add"), ("embedded.cgd", "archive make"), ("quartz.cif", "is no archive")):
+            output, said = self.told(f"net_tool identify {examples}/dia.cgd --archive {examples}/{file}", 5)
+            self.assertEqual((output, said.count("\n")), (b"archive refused 6 Version line=1\n", 1))
+            self.assertIn(word, said)
+        damaged = self.folder / "damaged.archive"
+        damaged.write_text("net_archive 2\nx\n")
+        self.assertEqual(self.told(f"net_tool duplicates --archive {damaged}", 5)[1], "")
+
+    def test_a_block_without_its_end_is_told(self):
+        nets = self.folder / "x.cgd"
+        block = "PERIODIC_GRAPH\nNAME a\nEDGES\n1 1 0 1\n1 1 1 0\n"
+        for text, told in ((f"{block}END\n{block}", False), (f"# x\n{block}{block}END\n", True), (f"{block}#x\n crystal #x\r\nEND\n", True),
+                           (f"{block}END x\nCRYSTAL\nEND\nNET\nEND\n", False), (f"{block}net x\nEND\n", False)):
+            nets.write_text(text)
+            said = self.told(f"net_tool check {nets}", 1)[1]
+            self.assertEqual("before the END of the one of line" in said, told, text)
+            self.assertLessEqual(said.count("\n"), 1)
+        nets.write_text(f"# x\n{block}{block}END\n")
+        self.assertIn("line 7 opens a block before the END of the one of line 2:", self.told(f"net_tool check {nets}", 1)[1])
+
+    def test_each_command_has_help_and_does_nothing_else_then(self):
+        need_modules("gemmi", "numpy", "scipy")
+        for command in sorted((self.prefix / "bin").iterdir()):
+            done = subprocess.run([command, "--help"], cwd=self.folder, capture_output=True, stdin=subprocess.DEVNULL)
+            self.assertEqual(done.returncode, 0, command.name)
+            self.assertIn(b"usage: " + command.name.encode(), done.stdout + done.stderr)
+        self.assertEqual(list(self.folder.iterdir()), [])
+
+    def test_each_command_of_python_tells_the_version(self):
+        for name, one in crystal_nets.commands.commands().items():
+            self.assertEqual(self.told(f"net_tool {name} --version", 0), (f"net_tool {name} {crystal_nets.__version__}\n".encode(), ""))
+            for link in one.links:
+                self.assertEqual(self.told(f"{link} --version", 0), (f"{link} {crystal_nets.__version__}\n".encode(), f"{link} is 'net_tool {name}' now\n"))
+
+    def test_help_needs_no_package(self):
+        """Where the packages of Python are missing that a command works with, it says so of its work."""
+        crystals = str(self.share / "examples/embedded.cgd")
+        works = {"convert": [crystals], "archive make": ["a", crystals], "archive rcsr": [crystals], "draw": ["--svg", "a"], "desk": ["--no-browser"],
+                 "names": [str(self.share / "examples/quartz.cif")]}
+        for name, one in crystal_nets.commands.commands().items():
+            if not one.packages:
+                continue
+            code = (f"import sys; sys.modules.update(dict.fromkeys({one.packages.replace('python3-', '').split()}))\n"
+                    f"sys.argv[1:1] = {name.split()!r}\nimport crystal_nets.commands; crystal_nets.commands.main()")
+            for words, status in ((["--help"], 0), (works.get(name, ["a"]), one.failed)):
+                done = run("sh", "-c", 'cd "$0" && exec "$@"', self.folder, "/usr/bin/python3", "-B", "-c", code, *words,
+                           PYTHONPATH=str(self.module), status=status)
+                told = (done.stdout if not status else done.stderr).decode()
+                self.assertIn(f"usage: net_tool {name}" if not status else "apt-get install python3-", told)
+                self.assertNotIn("Traceback", told)
+
+    def test_examples_are_all_installed(self):
+        names = {path.name for path in (TOP / "examples").iterdir()}
+        self.assertEqual({path.name for path in (self.share / "examples").iterdir()}, names)
+        self.assertTrue((self.share / "archives/README.md").exists())
+
+    def test_statuses_without_a_word_are_explained(self):
+        many = self.folder / "many.cgd"
+        many.write_bytes(b"PERIODIC_GRAPH\nEND\n" * 4097)
+        large = self.folder / "large.cgd"
+        large.write_bytes(b"#" * 16_777_217)
+        for file, status, word in ((self.folder / "absent", 3, "No such file"), (large, 6, "16,777,216"), (many, 8, "4,096")):
+            output, said = self.told(f"net_tool check {file}", status)
+            self.assertEqual((output, said.count("\n")), (b"", 1))
+            self.assertIn(word, said)
+
+    def test_files_without_a_net_are_told(self):
+        examples, archive = self.share / "examples", self.share / "archives/common.archive"
+        (self.folder / "x.arc").write_text("key 2 1 1 1 0 1 1 0 1\n id x\nend\n")
+        (self.folder / "empty").touch()
+        (self.folder / "wide.cgd").write_text((examples / "sql.cgd").read_text(), encoding="utf-16")
+        for file, word in ((examples / "quartz.cif", "net_tool names"), (examples / "embedded.cgd", "net_tool convert"),
+                           (archive, "net_tool convert"), (examples / "twice.maps", "verify"),
+                           (self.folder / "x.arc", "union"), (self.folder / "empty", "no block"), (self.folder / "wide.cgd", "UTF-16")):
+            for words in (f"check {file}", f"check < {file}", f"identify --archive {archive} {file}"):
+                output, said = self.told(f"net_tool {words}", None)
+                self.assertIn(word, said, words)
+                self.assertEqual(said.count("\n"), 1)
+                self.assertEqual(output, run(PROGRAM, "check", file, status=None).stdout if "check" in words else output)
+        self.assertEqual(self.told(f"net_tool check {examples}/dia.cgd", 0)[1], "")
+        self.assertEqual(self.told("net_tool check", 0, b"")[1], "")
+
+    def test_identify_without_an_archive_says_so(self):
+        dia, archive = self.share / "examples/dia.cgd", self.share / "archives/common.archive"
+        for words in (f"net_tool identify {dia}", f"net_tool identify < {dia}", f"cat {dia} | net_tool identify -"):
+            output, said = self.told(words, 0)
+            self.assertIn(b"names 0", output)
+            self.assertRegex(said, rf"^net_tool: no archive was asked.* --archive {archive}\n$", words)
+        for words in (f"identify {dia} --archive {archive}", f"identify --archive={archive} {dia}", f"key {dia}"):
+            self.assertEqual(self.told(f"net_tool {words}", 0)[1], "")
+
+    def test_what_is_to_be_tried_can_be_tried(self):
+        """A shell takes the words as they are shown, whatever the folder is called."""
+        prefix = self.folder / "it's a folder é"
+        tried = run(INSTALL / "install.sh", prefix, PROGRAM).stdout.decode().partition("try: ")[2]
+        path = f"{prefix}/bin:{os.environ['PATH']}"
+        self.assertEqual(names_told(run("sh", "-c", tried, PATH=path).stdout), EIGHT_NAMES)
+        dia = shlex.quote(str(prefix / "share/net_tool/examples/dia.cgd"))
+        tried = run("sh", "-c", f"net_tool identify {dia}", PATH=path).stderr.decode().strip().partition("; try ")[2]
+        self.assertEqual(names_told(run("sh", "-c", f"net_tool identify {dia} {tried}", PATH=path).stdout), [b"dia, diamond"])
+
+    def test_a_reader_that_has_enough_is_no_fault(self):
+        many = self.folder / "many.cgd"
+        many.write_bytes((self.share / "examples/dia.cgd").read_bytes() * 4000)
+        output, said = self.told(f"net_tool key {many} | head -n 1", 0)
+        self.assertEqual((output.count(b"\n"), said), (1, ""))
+        self.assertIn("cannot be written", self.told(f"net_tool check {many} > /dev/full", 4)[1])
+
+    def test_a_name_that_is_no_utf8_is_told(self):
+        done = subprocess.run([self.prefix / "bin/net_tool", "check", b"\xff.cgd"], capture_output=True, stdin=subprocess.DEVNULL)
+        self.assertEqual((done.returncode, done.stdout, done.stderr.count(b"\n")), (20, b"", 1))
+        self.assertIn(b"UTF-8", done.stderr)
+
+    def test_commands_find_the_program_beside_them(self):
+        path = "/usr/bin:/bin"
+        if shutil.which("net_tool", path=path):
+            self.skipTest("another net_tool is installed here")
+        shutil.copy(self.share / "examples/dia.cgd", self.folder / "nets.cgd")
+        bin_folder = self.prefix / "bin"
+        script = (f"cd {self.folder} && {bin_folder}/net_tool add nets.cgd --name mine >mine.archive && "
+                  f"{bin_folder}/net_tool table --no-names nets.cgd table && "
+                  f"{bin_folder}/net_tool names nets.cgd --archive mine.archive")
+        told = run("env", "-u", "NET_TOOL", f"PATH={path}", "sh", "-c", script).stdout
+        self.assertTrue(told.endswith(b"\tmine\tkey\n"), told)
+        self.assertTrue((self.folder / "table/table.tsv").exists())
+
+    def test_commands_find_their_modules(self):
+        self.in_shell(f"net_tool convert {self.share}/archives/common.archive > {self.folder}/nets.cgd")
+        rows = self.in_shell(f"net_tool key {self.folder}/nets.cgd").count(b"\nkey ")
+        names = (self.share / "archives/common.archive").read_text().count("\nentry ")
+        self.assertEqual(rows, names)
+
+    def test_tools_with_packages(self):
+        need_modules("gemmi", "numpy", "scipy")
+        self.in_shell("net_tool convert --help; net_tool desk --help")
+        self.assertTrue((self.share / "python/crystal_nets/desk/page/desk.html").is_file())
+        self.in_shell(f"net_tool identify {self.share}/examples/dia.cgd | net_tool draw --svg {self.folder}")
+        self.assertEqual(len(list(self.folder.glob("*.svg"))), 1)
+
+    def test_the_python_module(self):
+        """It finds the installed program and archives, where nothing names them."""
+        code = ("import crystal_nets as c; net = c.Net([(1, 1, (1, 0)), (1, 1, (0, 1))]);"
+                "print(c.keys([net])[0].key, c.find_program(), *c.archive.default_files(), '', sep='|')")
+        told = run("/usr/bin/python3", "-B", "-c", code, PYTHONPATH=str(self.module), NET_TOOL="",
+                   HOME=str(self.folder), XDG_DATA_HOME="").stdout.decode()
+        key, program, *archives = told.split("|")
+        self.assertEqual((key, program), ("2 1 1 1 1 0 1 1 1 1 0", str(self.prefix / "lib/net_tool/net_tool")))
+        self.assertEqual(archives[:-1], 
+                         [str(path) for ending in ("*.archive", "*.index") for path in sorted((self.share / "archives").glob(ending))])
+
+    def test_no_link_is_broken_and_each_command_has_a_page(self):
+        for path in self.root.rglob("*"):
+            self.assertTrue(path.exists(), path)
+        pages = {path.name.removesuffix(".1.gz") for path in (self.prefix / "share/man/man1").iterdir()}
+        self.assertLessEqual({path.name for path in (self.prefix / "bin").iterdir()}, pages)
+
+    def test_numbers_that_are_none_are_told(self):
+        """By what they may be, and by no name of the code."""
+        need_modules("gemmi", "numpy", "scipy")
+        for words in ("net_tool convert --as structure --jobs {} x", "net_tool table --jobs {} x y", "net_tool table --seconds {} x y", "net_tool draw --page x --jobs {}",
+                      "net_tool draw --page x --only {}", "net_tool draw --png x --width {}", "net_tool gallery --jobs {} x", "net_tool desk --port {}", "net_tool desk --seconds {}",
+                      "net_tool desk --memory {}"):
+            for value in ("x", "-1", "1.5", "9" * 5000, "٣"):
+                said = self.told(words.replace("{}", f"'{value}'"), 2)[1]
+                self.assertRegex(said, r"error: argument --\w[\w-]*: ('.*' is not a whole number from \d+ to \d+|expected one argument)\n$", (words, value[:9]))
+
+    def test_completion_of_subcommands(self):
+        """Their words and their options, as the installed command lists them."""
+        need_commands("bash")
+        file = self.prefix / "share/bash-completion/completions/net_tool"
+        for words, wanted in ((("t",), {"table", "topology"}), (("archive", ""), {"make", "rcsr", "list", "index"}), (("archive", "m"), {"make"}),
+                              (("convert", "--keep"), {"--keep-ions"}), (("table", "--s"), {"--seconds", "--sqlite"}), (("names", "--a"), {"--archive"})):
+            script = (f"source {file}; COMP_WORDS=(net_tool {shlex.join(words)}); COMP_CWORD={len(words)}; _net_tool net_tool; "
+                      "printf '%s\\n' \"${COMPREPLY[@]}\"")
+            self.assertEqual(set(run("bash", "-c", script, PATH=self.path).stdout.decode().split()), wanted, words)
+
+    def test_the_examples_of_the_page_run(self):
+        """As they are printed, one after the other, in the folder that is installed."""
+        page = (TOP / "docs/man/net_tool.1").read_text().partition(".Sh EXAMPLES\n")[2].partition(".Sh ")[0]
+        commands = re.findall(r"(?m)^(?:\.Dl )?\$ (.+)$", page)
+        self.assertGreater(len(commands), 5)
+        folder = self.folder / "net_tool"
+        shutil.copytree(self.share, folder, ignore=shutil.ignore_patterns("python"))
+        for command in commands:
+            output, said = self.told(f"cd {folder} && {command}", 0)
+            self.assertEqual(said, "", command)
+        self.assertIn(b'group "sample A" "mine"', output + self.told(f"cd {folder} && net_tool duplicates --archive more.net", 0)[0])
+
+    def test_what_can_be_run_is_a_script_or_the_program(self):
+        for path in self.root.rglob("*"):
+            if path.is_file() and os.access(path, os.X_OK):
+                self.assertIn(path.read_bytes()[:2], (b"#!", b"\x7fE"), path)
+
+    def test_no_file_of_tests_is_installed(self):
+        self.assertEqual([path for path in self.root.rglob("*test*")], [])
+
+    def test_installing_again_changes_nothing(self):
+        before = self.contents()
+        self.install()
+        self.assertEqual(self.contents(), before)
+
+    def contents(self) -> dict[Path, bytes]:
+        return {path: path.read_bytes() for path in self.root.rglob("*") if path.is_file()}
+
+    def test_pages_have_no_fault(self):
+        need_commands("mandoc")
+        pages = sorted((self.prefix / "share/man/man1").glob("net_tool*.1.gz"))
+        self.assertEqual({page.name for page in pages} - {"net_tool.1.gz"}, {
+            f"net_tool-{name.replace(' ', '-')}.1.gz" for name in commands()})
+        for page in pages:
+            text = gzip.decompress(page.read_bytes())
+            told = run("mandoc", "-Tlint", "-Wwarning", stdin=text, status=None).stdout.decode().splitlines()
+            self.assertEqual([line for line in told if "referenced manual not found" not in line], [], page)
+            if page.name != "net_tool.1.gz":
+                words = page.name.removesuffix(".1.gz").replace("-", " ", 2)
+                help_of = run(self.prefix / "bin/net_tool", *words.split()[1:], "--help", COLUMNS="80").stdout.decode()
+                shown = run("mandoc", "-Tascii", stdin=text).stdout.decode()
+                self.assertEqual(set(re.findall(r"--[a-z][a-z-]+", help_of)) - set(re.findall(r"--[a-z][a-z-]+", re.sub(r".\x08", "", shown))),
+                                 set(), page)
+
+
+class Scripts(FolderTest):
+    """All scripts of the repository, also those that are not installed."""
+
+    def test_each_has_help_that_does_nothing_else(self):
+        need_modules("gemmi", "numpy", "scipy", "flask")
+        files = [path for folder in ("dev/*", "dev/*/*") for path in TOP.glob(folder)]
+        scripts = [path for path in [*files, TOP / "net_tool", TOP / "preview"] if path.is_file() and os.access(path, os.X_OK)]
+        self.assertGreater(len(scripts), 12)
+        for script in scripts:
+            for word in ("--help", "-h"):
+                done = subprocess.run([script, word], cwd=self.folder, capture_output=True, stdin=subprocess.DEVNULL,
+                                      env={**os.environ, "PYTHONDONTWRITEBYTECODE": "1"})
+                self.assertEqual((done.returncode, done.stderr), (0, b""), script)
+                self.assertGreater(len(done.stdout), 80, script)
+        self.assertEqual(list(self.folder.iterdir()), [])
+
+    def test_the_tests_of_some_folders(self):
+        """dev/test runs those of the folders that are given, with the program that is given."""
+        for name in ("a", "b"):
+            (self.folder / name).mkdir(parents=True)
+            (self.folder / name / f"test_{name}.py").write_text(
+                "import unittest\nfrom testing import IS_LONG, PROGRAM\nclass One(unittest.TestCase):\n"
+                f"    def test_one(self):\n        self.assertEqual((PROGRAM, IS_LONG), ({str(self.folder / 'program')!r}, True))\n")
+        for words, passed in (((self.folder / "a",), 1), ((self.folder / "a/test_a.py", self.folder / "b"), 2)):
+            done = run(TOP / "dev/test", "--long", self.folder / "program", *words)
+            self.assertIn(f"tools: {passed} passed, 0 failed, 0 skipped\n", done.stdout.decode())
+        self.assertIn("1 failed", run(TOP / "dev/test", self.folder / "b", self.folder / "program", status=1).stdout.decode())
+        self.assertIn(b"no option --other", run(TOP / "dev/test", "--other", status=2).stderr)
+
+
+class InFront(FolderTest):
+    """The command in front of a program that ends as the test wants it."""
+
+    def run_program(self, script: str, *words: object, status: int) -> str:
+        program = self.folder / "program"
+        program.write_text(f"#!/bin/sh\n{script}\n")
+        program.chmod(0o755)
+        run(INSTALL / "install.sh", self.folder / "prefix", program)
+        return run(self.folder / "prefix/bin/net_tool", *words, status=status).stderr.decode()
+
+    def test_a_union_that_took_no_item(self):
+        blocks = TOP / "examples/dia.cgd"
+        said = self.run_program("echo net_archive 2", "union", blocks, "--archive", "x", status=0)
+        self.assertIn("no key lines, but blocks PERIODIC_GRAPH", said)
+        self.assertEqual(run(self.folder / "prefix/bin/net_tool", "union", "--archive=x",
+                             TOP / "archives/common.archive").stderr, b"")
+
+    def test_a_union_of_a_pipe(self):
+        """What comes by a pipe is reported as a file is, and reaches the program whole."""
+        text = b"PERIODIC_GRAPH\nEND\n" * 900_000  # more than the program reads
+        self.run_program('cat >"$0.read"; exit 1', "union", "--archive", "x", status=1)
+        for words in (("union", "--archive", "x"), ("union", "-", "--archive=x")):
+            done = run(self.folder / "prefix/bin/net_tool", *words, stdin=text, status=1)
+            self.assertIn(b"no key lines, but blocks PERIODIC_GRAPH", done.stderr)
+            self.assertEqual((self.folder / "prefix/lib/net_tool/net_tool.read").read_bytes(), text[:16_777_217])
+        self.assertEqual(run(self.folder / "prefix/bin/net_tool", "union", "--archive=x", stdin=b"key 2 1 1 1 0 1 1 0 1\nid x\nend\n",
+                             status=1).stderr, b"")
+
+    def test_a_union_of_a_pipe_leaves_no_file(self):
+        temporary = self.folder / "temporary"
+        temporary.mkdir()
+        self.run_program("cat", "union", "--archive", "x", status=0)
+        run(self.folder / "prefix/bin/net_tool", "union", "--archive", "x", stdin=b"id x\nend\n", TMPDIR=str(temporary))
+        self.assertEqual(list(temporary.iterdir()), [])
+
+    def test_a_union_of_keys_in_several_lines(self):
+        items = self.folder / "x.arc"
+        for text, count in (("key 2 1 1 1 0 1 1 0 1\n id x\nend\n", 0), ("key 2 1 1 1 0\n 1 1 0 1\n id x\nend\n", 1)):
+            items.write_text(text)
+            said = self.run_program("echo net_archive 2", "union", items, "--archive", "x", status=0)
+            self.assertEqual((said.count("\n"), said.count("union reads no key further than its line")), (count, count))
+
+    def test_the_status_is_that_of_the_program(self):
+        for status, said in ((0, ""), (5, ""), (7, "memory was refused"), (9, ""), (11, "")):
+            self.assertIn(said, self.run_program(f"exit {status}", "workload", 3, status=status))
+        self.assertIn("not known", run(self.folder / "prefix/bin/net_tool", "--version").stdout.decode())
+
+
+class Ending(FolderTest):
+    """The command in front of the program and the program end together."""
+
+    def begun(self, *before: str) -> tuple[subprocess.Popen, int]:
+        """The installed command, while its program runs, and the number of the program's process."""
+        program, note = self.folder / "program", self.folder / "pid"
+        program.write_text(f"#!/bin/sh\necho $$ >{note}.new\nmv {note}.new {note}\nexec sleep 60\n")
+        program.chmod(0o755)
+        note.unlink(missing_ok=True)
+        run(INSTALL / "install.sh", self.folder / "prefix", program)
+        process = subprocess.Popen([*before, self.folder / "prefix/bin/net_tool", "workload", "1"], stdin=subprocess.DEVNULL,
+                                   start_new_session=True)
+        self.addCleanup(process.kill)
+        while not note.exists():
+            time.sleep(0.02)
+        return process, int(note.read_text())
+
+    def test_by_each_signal(self):
+        for number, send in ((signal.SIGTERM, os.kill), (signal.SIGHUP, os.kill), (signal.SIGKILL, os.kill),
+                             (signal.SIGINT, os.killpg)):  # a terminal sends this one to all of the group
+            process, program = self.begun()
+            send(process.pid, number)
+            self.assertEqual(process.wait(10), -number)
+            self.assertTrue(ends_soon(program), number)
+
+    def test_without_setpriv_the_program_is_the_command_itself(self):
+        tools = self.folder / "tools"
+        tools.mkdir()
+        for name in ("sh", "dirname", "readlink", "sleep", "mv"):
+            (tools / name).symlink_to(shutil.which(name))
+        process, program = self.begun("env", f"PATH={tools}")
+        self.assertEqual(process.pid, program)
+        process.kill()
+        process.wait(10)
+
+
+class Words(FolderTest):
+    def test_words_without_a_form(self):
+        for words in ([], ["relative"], ["/a", "/b", "/c"]):
+            run(INSTALL / "install.sh", *words, status=2)
+        run(INSTALL / "make_deb.sh", status=2)
+
+    def test_a_program_that_is_not_there(self):
+        done = run(INSTALL / "install.sh", self.folder, self.folder / "absent", status=1)
+        self.assertIn(b"is not there", done.stderr)
+        self.assertEqual(list(self.folder.iterdir()), [])
+
+
+class Completion(FolderTest):
+    def complete(self, *words: str) -> set[str]:
+        """What bash offers for the last word."""
+        need_commands("bash")
+        script = (f"source {shlex.quote(str(TOP / 'front/net_tool.bash'))}; COMP_WORDS=({shlex.join(words)}); "
+                  f"COMP_CWORD={len(words) - 1}; _net_tool {TOP / 'net_tool'}; printf '%s\\n' \"${{COMPREPLY[@]}}\"")
+        done = subprocess.run(["bash", "-c", script], cwd=self.folder, capture_output=True, timeout=20)
+        return set(done.stdout.decode().split("\n")) - {""}
+
+    def test_commands_options_and_files(self):
+        for name in ("a net.cgd", "b.archive", "c.txt", "d.arc"):
+            (self.folder / name).touch()
+        (self.folder / "deep").mkdir()
+        self.assertEqual(self.complete("net_tool", "i"), {"identify"})
+        self.assertEqual(self.complete("net_tool", ""), commands_taken() | {name.split()[0] for name in crystal_nets.commands.commands()} | {"help", "--help", "--version"})
+        self.assertEqual(self.complete("net_tool", "help", "co"), {"components", "convert", "cover"})
+        self.assertEqual(self.complete("net_tool", "key", ""), {"a net.cgd", "deep"})
+        self.assertEqual(self.complete("net_tool", "identify", "--"), {"--archive"})
+        self.assertEqual(self.complete("net_tool", "add", "--"), {"--archive", "--name"})
+        self.assertEqual(self.complete("net_tool", "identify", "--archive", ""), {"b.archive", "deep"})
+        self.assertEqual(self.complete("net_tool", "identify", "--archive", "=", "b"), {"b.archive"})
+        self.assertEqual(self.complete("net_tool", "union", ""), {"b.archive", "d.arc", "deep"})
+        self.assertEqual(self.complete("net_tool", "key", "c"), {"c.txt"})
+        self.assertEqual(self.complete("net_tool", "workload", ""), set())
+
+
+class Package(FolderTest):
+    def setUp(self):
+        super().setUp()
+        need_program()
+        need_commands("dpkg-deb", "objdump", "strip")
+
+    def build(self) -> Path:
+        run(INSTALL / "make_deb.sh", "1.0", self.folder, PROGRAM, SOURCE_DATE_EPOCH="1700000000")
+        package, = self.folder.glob("crystal-net-tool_1.0_*.deb")
+        return package
+
+    def test_what_the_package_says(self):
+        package = self.build()
+        depends = run("dpkg-deb", "-f", package, "Depends").stdout.decode()
+        self.assertRegex(depends, r"^libc6 \(>= 2\.\d+\), python3\n$")
+        content = run("dpkg-deb", "-c", package).stdout.decode()
+        for path in ("./usr/bin/net_tool", "./usr/lib/net_tool/net_tool", "./usr/share/net_tool/archives/zeolites.archive", "./usr/bin/cif2cgd ->"):
+            self.assertIn(path, content)
+        self.assertNotIn(" ./root", content)
+        self.assertIn("./usr/lib/python3/dist-packages/crystal_nets/py.typed", content)
+        self.assertIn("./usr/lib/python3/dist-packages/crystal_nets/pictures/page.html", content)
+        self.assertEqual(content.count("share/net_tool/python/crystal_nets"), 1)  # a link
+
+    def test_the_module_and_the_commands_of_the_package_work_together(self):
+        root = self.folder / "root"
+        run("dpkg-deb", "-x", self.build(), root)
+        code = "import crystal_nets as c; print(c.find_program(), c.keys([c.Net([(1, 1, (1, 0)), (1, 1, (0, 1))])])[0].key)"
+        settings = {"PYTHONPATH": str(root / "usr/lib/python3/dist-packages"), "NET_TOOL": "", "XDG_DATA_HOME": ""}
+        told = run("/usr/bin/python3", "-B", "-c", code, **settings).stdout.decode()
+        self.assertEqual(told, f"{root}/usr/lib/net_tool/net_tool 2 1 1 1 1 0 1 1 1 1 0\n")
+        blocks = run(root / "usr/bin/net_tool", "convert", root / "usr/share/net_tool/archives/common.archive", **settings).stdout
+        self.assertEqual(blocks.count(b"END\n"), (TOP / "archives/common.archive").read_bytes().count(b"\nentry "))
+
+    def test_each_command_runs_where_the_package_is_unpacked(self):
+        """By who may not install it, in a folder of any name."""
+        need_modules("gemmi", "numpy", "scipy", "flask")
+        root = self.folder / "a folder é"
+        run("dpkg-deb", "-x", self.build(), root)
+        settings = {"PYTHONPATH": "", "NET_TOOL": "", "XDG_DATA_HOME": "", "HOME": str(self.folder)}
+        commands = sorted((root / "usr/bin").iterdir())
+        self.assertGreater(len(commands), 12)
+        for command in commands:
+            self.assertLessEqual(run(command, "--help", **settings).stderr.count(b"\n"), 1, command.name)
+        named = run(root / "usr/bin/net_tool", "names", root / "usr/share/net_tool/examples/quartz.cif", **settings).stdout
+        self.assertEqual(named, b"1\tquartz\tqtz, quartz\tkey\n")
+
+    def test_the_same_sources_give_the_same_package(self):
+        first = self.build().read_bytes()
+        self.assertEqual(self.build().read_bytes(), first)
+
+    @long_test
+    def test_lintian_has_no_error_and_no_warning(self):
+        need_commands("lintian")
+        told = run("lintian", "--allow-root", "--fail-on", "none", self.build(), status=None)
+        self.assertEqual(told.stdout, b"")
+
+    @long_test
+    def test_a_fresh_system(self):
+        """Makes a Debian system of its own, from the network, and names nets there."""
+        need_commands("debootstrap")
+        if os.geteuid() != 0:
+            self.skipTest("debootstrap needs root")
+        package, system = self.build(), self.folder / "system"
+        made = run("debootstrap", "--variant=minbase", "--include=python3", "bookworm", system,
+                   "http://deb.debian.org/debian", status=None, seconds=1200)
+        if made.returncode != 0:
+            self.skipTest("debootstrap did not end well; is there a network?")
+        shutil.copy(package, system / "package.deb")
+        run("chroot", system, "dpkg", "-i", "/package.deb")
+        share = "/usr/share/net_tool"
+        told = run("chroot", system, "net_tool", "identify", f"{share}/examples/mystery.cgd",
+                   "--archive", f"{share}/archives/common.archive").stdout
+        self.assertEqual(names_told(told), EIGHT_NAMES)
+        self.assertIn(b"archives/common.archive", run("chroot", system, "net_tool", "archive", "list").stdout)
+        run("chroot", system, "dpkg", "--purge", "crystal-net-tool")
+        self.assertFalse((system / "usr/share/net_tool").exists())
