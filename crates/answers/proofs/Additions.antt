@@ -103,7 +103,7 @@ kinds_are os kinds i number o net ks h l e n s t =
 
 -- The archive grows by the entry of the next block.
 
--- where none is given, none is given after some blocks
+-- if none is given, none is given after some blocks
 pub none_after : (bs : List BlockView) → given_after None bs ≡ None
 none_after bs = search arith
 
@@ -190,7 +190,7 @@ pub first_added : (given : Option (List ℕ)) (bs : List BlockView) (a b : Archi
     → AreAddedTo given bs a i next number b → HasFirstOf given bs a b
 first_added given bs a b i number next h = (take i bs, drop i bs, sym (take-append-drop i bs), h.added)
 
--- none of them are, where nothing is added
+-- none of them are, if nothing is added
 pub none_are_first : (given : Option (List ℕ)) (bs : List BlockView) (a : ArchiveView) → IsArchive a → HasFirstOf given bs a a
 none_are_first given bs a h = ([], bs, refl, added_none given a h)
 
@@ -282,7 +282,7 @@ added_not_refused given a b longer before block after net fault all some is caus
         (sym (append_assoc a.entries r.front (r.entry ∷ r.later)))
         ∙ ap (λ (c : ArchiveView). record { version = c.version; entries = c.entries ++ r.entry ∷ r.later }) (sym so_far)
 
--- where all blocks are added, none is refused
+-- if all blocks are added, none is refused
 pub all_or_one : (given : Option (List ℕ)) (bs : List BlockView) (a b : ArchiveView) (number : ℕ) (fault : AddFault) → IsAdded given bs a b
     → IsNotAdded given bs a number fault → fault ≡ add.NoMemory
 all_or_one given bs a b number fault h k = added_not_refused given a b k.longer k.before k.block k.after k.net fault
@@ -339,7 +339,7 @@ entries_accepted given (b ∷ bs) [] h = absurd h
 entries_accepted given (b ∷ bs) (e ∷ es) h = All-cons (λ (block : BlockView). (net : KeyedNet) × IsNetOf block net) b bs (h.0.net, h.0.is_net)
     (entries_accepted None bs es h.1)
 
--- where all blocks are accepted the outcomes say so
+-- if all blocks are accepted the outcomes say so
 all_told : (n : ℕ) (bs : List BlockView) (os : List Outcome) → AreOutcomesFrom [] Key n bs os → AreAccepted bs → list_all is_accepted os ≡ true
 all_told n [] [] h a = refl
 all_told n [] (o ∷ os) h a = absurd h
@@ -351,6 +351,6 @@ all_told n (b ∷ bs) (o ∷ os) h a =
     let rest = all_told (n + 1) bs os h.1 (All-tail (λ (block : BlockView). (net : KeyedNet) × IsNetOf block net) b bs a) in
     λ i. here i && rest i
 
--- so a report that some block is not accepted is none where all are
+-- so a report that some block is not accepted is none if all are
 pub accepted_or_reported : (bs : List BlockView) (text : List ℕ) → AreAccepted bs → ¬ IsReport Key [] bs false text
 accepted_or_reported bs text a r = true≢false (sym (all_told 1 bs r.outcomes r.are_outcomes.each a) ∙ sym r.all)

@@ -29,19 +29,19 @@ of_union begins file_name archive_name bytes archive status text h = search arit
 of_verify : (name : List ℕ) (bytes : List ℕ) (status : Status) (text : List ℕ) → IsDueToVerify bytes status text → IsComplete (Some (Verify name)) status
 of_verify name bytes status text h = search arith
 
--- what is due to a task ends it so, where the archive is read
+-- what is due to a task ends it so, if the archive is read
 ends_with : (task : Task) (bytes : List ℕ) (archive : Option (List ℕ)) (status : Status) (text : List ℕ) → status ≢ BadArchive
     → IsDueWith task bytes archive status text → IsComplete (Some task) status
 ends_with (Verify file) bytes given status text good due = of_verify file bytes status text due
 ends_with (Union file archive) bytes given status text good due = of_union (begins_archive bytes) file archive bytes given status text due
 ends_with task bytes given status text good due = of_blocks task bytes given status text good due
 
--- where the archive is good, it is the file of a union that is bad
+-- if the archive is good, it is the file of a union that is bad
 bad_ends : (task : Task) (bytes : List ℕ) (archive : Option (List ℕ)) (text : List ℕ) → ¬ IsBadArchive archive text
     → IsDueWith task bytes archive BadArchive text → IsOfUniting (Some task)
 bad_ends task bytes archive text h k = search arith
 
--- where there are few blocks, there are too many items of a union
+-- if there are few blocks, there are too many items of a union
 few_and_many : (bytes : List ℕ) → most_blocks < length (blocks_of bytes) → ¬ (length (blocks_of bytes) ≤ most_blocks)
 few_and_many bytes many few = absurd (omega (arith, many, few))
 

@@ -249,7 +249,7 @@ made_blocks n l = count_from 0 n 0 1 (omega (arith, l))
 pub of_blocks : (on : BlocksTask) → IsOfBlocks (blocks_view on)
 of_blocks on = search arith
 
--- where the archive is read, it is not reported as bad
+-- if the archive is read, it is not reported as bad
 not_bad : (task : Task) (blocks : List BlockView) (a : ArchiveView) (text : List ℕ) → ¬ IsDueFor task blocks a BadArchive text
 not_bad task blocks a text h = search arith
 
@@ -268,7 +268,7 @@ due_to_blocks task bytes archive s text k l = search arith
 pub few_made : (count : ℕ) → count ≤ most_nets → ¬ (most_blocks < length (blocks_of (workload count)))
 few_made count few many = let made = made_blocks count few in absurd (omega (arith, made, few, many))
 
--- where there are too many blocks, there is too much
+-- if there are too many blocks, there is too much
 pub many_blocks : (task : Task) (file : List ℕ) → IsOfBlocks task → MakesFew task → most_blocks < length (blocks_of (bytes_of task file))
     → HasTooMany task (bytes_of task file)
 many_blocks task file k l p = grind (arith, few_made)

@@ -1,4 +1,4 @@
--- What is due to a task is one, and it is there where no net has to be computed.
+-- What is due to a task is one, and it is there if no net has to be computed.
 use Rattle.std.proofs.Common.{◌≡◌, ℕ, ◌<◌, ◌≤◌, Bool, true, false, List, [], length, Option, true≢false, refl, sym, ap, ◌∙◌, arith, ◌⊎◌, inl, inr}
 use Rattle.std.proofs.lemmas.Bool.{cases_lt}
 use Rattle.cgd_read.specs.{Views.BlockView, Blocks.blocks_of, Blocks.most_blocks}
@@ -63,7 +63,7 @@ one_migration : (a : ArchiveView) (s t : Status) (x y : List ℕ) → IsMigrated
 one_migration a s t x y p q = grind arith
 
 module _ (given : Option (List ℕ)) (blocks : List BlockView) (a : ArchiveView) where
-  -- where all are added, none is refused
+  -- if all are added, none is refused
   not_refused : (x y : List ℕ) → IsAddedAs given blocks a x → ¬ IsNotAddedAs given blocks a y
   not_refused x y h k = k.told (all_or_one given blocks a h.longer k.number k.fault h.added k.not_added)
 
@@ -139,7 +139,7 @@ one_with (Union file name) bytes archive s t x y h k = one_union_due bytes archi
 one_with (Verify file) bytes archive s t x y h k = one_verification bytes s t x y h k
 one_with task bytes archive s t x y h k = one_of_blocks task bytes archive s t x y h k
 
--- where there are too many blocks or items, nothing is due
+-- if there are too many blocks or items, nothing is due
 many_or_few : (task : Task) (bytes : List ℕ) (archive : Option (List ℕ)) (s : Status) (x : List ℕ) → most_blocks < length (blocks_of bytes)
     → ¬ IsDueToBlocks task bytes archive s x
 many_or_few task bytes archive s x m h = let few = few_blocks task bytes archive s x h in absurd (omega (arith, m, few))
@@ -150,7 +150,7 @@ not_many (Verify file) bytes archive s x m h = absurd m
 not_many (Workload count) bytes archive s x m h = absurd m
 not_many task bytes archive s x m h = many_or_few task bytes archive s x m h
 
--- an answer where there are too many blocks or items, or not
+-- an answer if there are too many blocks or items, or not
 data CountOf (task : Task) (file : List ℕ) (archive : Option (List ℕ)) (s : Status) (x : List ℕ) : Type 0 where
   Many : s ≡ TooManyBlocks → HasTooMany task (bytes_of task file) → x ≡ [] → CountOf task file archive s x
   Few : IsDueWith task (bytes_of task file) archive s x → CountOf task file archive s x
@@ -166,7 +166,7 @@ one_count task file archive s t x y l p = search (arith, not_many, one_with)
 pub one_due_answer : OneDueAnswer
 one_due_answer task file archive s t x y h k = one_count task file archive s t x y (count_of task file archive s x h) (count_of task file archive t y k)
 
--- Where no net has to be computed an answer is due.
+-- If no net has to be computed an answer is due.
 
 -- what is due to a migration
 migrated : (name : List ℕ) (archive : Option (List ℕ)) (a : ArchiveView) → IsArchiveIn archive a

@@ -27,7 +27,7 @@ keys_of ks = map (λ (b : Bor (List ℤ)). b.now) ks
 key-Decides : (x y : Bor (List ℤ)) → Decides (same_key x y) (x.now ≡ y.now)
 key-Decides x y = slice_eq-Decides Decides-int_eq x.now y.now (same_key x y) refl
 
--- where the key is there, the keys stay
+-- if the key is there, the keys stay
 known_stays : (old : List (List ℤ)) (key : List ℤ) → Contains old key → IsPutIn old key old
 known_stays old key c = grind arith
 
@@ -83,7 +83,7 @@ put_told os o keys keys' key h is p = record {
     back xs w (inl c) = (p.exact xs).1 (inl ((h.exact xs).1 (w.0, c, w.2)))
     back xs w (inr e) = (p.exact xs).1 (inr (ap (λ (t : Option (List ℤ)). unwrap_or t key) (sym is ∙ ap (λ (x : Outcome). key_told x.body) e ∙ w.2)))
 
--- and where none is reported of it, the keys stay
+-- and if none is reported of it, the keys stay
 none_told : (os : List Outcome) (o : Outcome) (keys : List (List ℤ)) → AreDifferentKeys os keys → key_told o.body ≡ None → AreDifferentKeys (os ++ o ∷ []) keys
 none_told os o keys h is = record { exact = λ xs. (λ c. there xs ((h.exact xs).0 c), λ w. back xs w (Contains-push_cases os o w.0 w.1)); once = h.once }
   where

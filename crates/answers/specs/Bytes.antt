@@ -12,7 +12,7 @@ abbrev pub AreFitting : Option (List ℕ) → Type 0
 AreFitting None = Unit {0}
 AreFitting (Some bytes) = length bytes ≤ most_bytes
 
--- bytes with no more blocks than are taken, where the task asks for the blocks of a file
+-- bytes with no more blocks than are taken, if the task asks for the blocks of a file
 abbrev pub HasFewBlocks : Task → List ℕ → Type 0
 HasFewBlocks (Union file archive) bytes = Unit {0}
 HasFewBlocks (Verify file) bytes = Unit {0}

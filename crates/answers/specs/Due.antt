@@ -126,7 +126,7 @@ abbrev pub AreGroupsAs : ArchiveView → Status → List ℕ → Type 0
 AreGroupsAs a status.Done text = AreGroupsIn a text
 AreGroupsAs a s text = ⊥
 
--- the text in the newest format where it is not too long, and else its length
+-- the text in the newest format if it is not too long, and else its length
 abbrev pub IsMigratedAs : ArchiveView → Status → List ℕ → Type 0
 IsMigratedAs a status.Done text = IsMigrated a text
 IsMigratedAs a status.MigrateRefused text = (most_bytes < length (newest a)) × (text ≡ migrate_fault_text (length (newest a)))
@@ -147,8 +147,8 @@ HasFirstOf given blocks a b = (before : List BlockView) × (after : List BlockVi
 abbrev pub HasThoseBefore : Option (List ℕ) → List BlockView → ArchiveView → ℕ → AddFault → ArchiveView → Type 0
 HasThoseBefore given blocks a number fault b = (refused : IsNotAdded given blocks a number fault) × (b ≡ refused.longer)
 
--- an addition that was answered so has made b of the archive a: where all blocks were added, with their entries; where one has no key, as it
--- was; where one cannot be added, with those before it
+-- an addition that was answered so has made b of the archive a: if all blocks were added, with their entries; if one has no key, as it
+-- was; if one cannot be added, with those before it
 abbrev pub HasBecome : Option (List ℕ) → List BlockView → ArchiveView → Status → ArchiveView → Type 0
 HasBecome given blocks a status.Done b = IsAdded given blocks a b
 HasBecome given blocks a status.SomeRefused b = b ≡ a
@@ -160,7 +160,7 @@ abbrev pub HasBecomeFor : Task → List BlockView → ArchiveView → Status →
 HasBecomeFor (Add file name given) blocks a s b = HasBecome given blocks a s b
 HasBecomeFor task blocks a s b = b ≡ a
 
--- where memory is refused, an addition has added some of the first, and any other task leaves the archive as it was
+-- if memory is refused, an addition has added some of the first, and any other task leaves the archive as it was
 abbrev pub HasFirstFor : Task → List BlockView → ArchiveView → ArchiveView → Type 0
 HasFirstFor (Add file name given) blocks a b = HasFirstOf given blocks a b
 HasFirstFor task blocks a b = b ≡ a
@@ -207,7 +207,7 @@ HasTooMany (Verify file) bytes = ⊥
 HasTooMany (Workload count) bytes = ⊥
 HasTooMany task bytes = most_blocks < length (blocks_of bytes)
 
--- this task, of these bytes of its file and of its archive, where it names them, has this answer
+-- this task, of these bytes of its file and of its archive, if it names them, has this answer
 abbrev pub IsDueOn : Task → List ℕ → Option (List ℕ) → Status → List ℕ → Type 0
 IsDueOn task file archive status.TooManyBlocks text = HasTooMany task (bytes_of task file) × (text ≡ [])
 IsDueOn task file archive s text = IsDueWith task (bytes_of task file) archive s text

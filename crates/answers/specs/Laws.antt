@@ -30,7 +30,7 @@ pub record UnionEndings : Type 0 where
   pub many : (name archive_name : List ℕ) (file archive : Option (List ℕ)) (x : List ℕ)
       → IsDueOn (Union name archive_name) (unwrap_or file []) archive TooManyBlocks x → HasManyItems (unwrap_or file [])
 
--- an answer is due where too many blocks or items begin; and where an archive is migrated
+-- an answer is due if too many blocks or items begin; and if an archive is migrated
 pub record SomeAnswerIsDue : Type 0 where
   pub many : (task : Task) (file : List ℕ) (archive : Option (List ℕ)) → HasTooMany task (bytes_of task file) → IsDueOn task file archive TooManyBlocks []
   pub migrated : (name : List ℕ) (archive : Option (List ℕ)) (a : ArchiveView) → IsArchiveIn archive a

@@ -156,7 +156,7 @@ fn add_accepted<'x>(
 }
 
 /// The text of the archive with the nets of these blocks, which are added to it, or the report on
-/// them where one has no key, or why the first that cannot be added is not.
+/// them if one has no key, or why the first that cannot be added is not.
 #[tactic(auto, using(crate::proofs::Additions::none_are_first))]
 pub fn add_blocks(
     alloc: Global,
@@ -168,8 +168,8 @@ pub fn add_blocks(
     requires few { length found.now ≤ most_blocks }
     ensures answer { IfOk result (λ a. IsAddedOrRefused (option_copied name.entry)
         (views found.now) archive.old a.status a.text.items) }
-    // The archive has the nets of all blocks then; where one has no key, it is as it was; where one
-    // cannot be added, it has those before it, and where memory is refused some of the first.
+    // The archive has the nets of all blocks then; if one has no key, it is as it was; if one
+    // cannot be added, it has those before it, and if memory is refused some of the first.
     ensures archive { MatchResult result
         (λ a. HasBecome (option_copied name.entry) (views found.now) archive.old a.status archive.new)
         (λ e. HasFirstOf (option_copied name.entry) (views found.now) archive.old archive.new) }

@@ -104,7 +104,7 @@ fn answer_to_blocks(
     }
 }
 
-/// What is due to a task, of the bytes of its file and of its archive, where it names them.
+/// What is due to a task, of the bytes of its file and of its archive, if it names them.
 #[tactic(auto, using(crate::proofs::MadeBlocks::due_to_blocks, crate::proofs::MadeBlocks::few_made, crate::proofs::MadeBlocks::many_blocks, crate::proofs::MadeBlocks::of_blocks, crate::proofs::Endings::text_of_blocks, crate::proofs::Endings::text_of_union, crate::proofs::Endings::text_of_verify))]
 pub fn answer_to(
     alloc: Global,
@@ -120,7 +120,7 @@ pub fn answer_to(
         (bytes_of (task_view task.now) file.now) (bytes_in archive) a.status a.text.items) }
     // Its status is one that goes with a text.
     ensures told { IfOk result (λ a. GoesWithText a.status) }
-    // TooManyBlocks comes only where there are more blocks, or items, than may be, and never of a workload.
+    // TooManyBlocks comes only if there are more blocks, or items, than may be, and never of a workload.
     ensures many { IsErrOf result Silence.TooManyBlocks →
         HasTooMany (task_view task.now) (bytes_of (task_view task.now) file.now) }
 {

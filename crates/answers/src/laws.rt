@@ -8,7 +8,7 @@ pub fn one_due_answer()
     ensures theorem { OneDueAnswer }
 {}
 
-/// Where the bytes of its files are within their limits, and the archive is one, a task to which an
+/// If the bytes of its files are within their limits, and the archive is one, a task to which an
 /// answer is due ends in few ways.
 #[tactic(auto, using(crate::proofs::Endings::few_endings))]
 pub fn few_endings()
@@ -22,7 +22,7 @@ pub fn union_endings()
     ensures theorem { UnionEndings }
 {}
 
-/// An answer is due where too many blocks or items begin, and where an archive is migrated: there no
+/// An answer is due if too many blocks or items begin, and if an archive is migrated: there no
 /// net has to be computed.
 #[tactic(auto, using(crate::proofs::OneAnswer::some_answer_is_due))]
 pub fn some_answer_is_due()

@@ -44,7 +44,7 @@ fn key_told<'a>(outcome: &'a Outcome<'_>) -> Option<&'a [i128]>
     }
 }
 
-// Puts a key last among the others, where it is not there.
+// Puts a key last among the others, if it is not there.
 fn put_key<'a>(keys: &mut IndexSet<&'a [i128]>, key: &'a [i128]) -> Result<(), NoMemory>
     ensures { OnOk result (IsPutIn (lists_in keys.old) key.now (lists_in keys.new)) }
 {

@@ -20,7 +20,7 @@ use Rattle.archive_answers.specs.Outcomes.{AreItemOutcomesFrom, IsItemBodyOf, Is
 use Rattle.archive_answers.specs.{Reports.IsItemReport, Unions.AreEntriesOfItems, Unions.IsEntryOfItem}
 use Rattle.archive_answers.specs.ItemEntries.{AreEntriesTold, HasNamedNet, IsEntryAs, IsEntryTold, IsUnderName}
 
--- the key that a body has, where it has one
+-- the key that a body has, if it has one
 abbrev key_or : KeyView → BodyView → KeyView
 key_or d (Net key) = key
 key_or d (FaultyView fault) = d

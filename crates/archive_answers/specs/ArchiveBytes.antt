@@ -18,7 +18,7 @@ abbrev pub IsBadArchive : Option (List ℕ) → List ℕ → Type 0
 IsBadArchive None text = ⊥
 IsBadArchive (Some bytes) text = (fault : ArchiveFault) × (fault ≢ archive.NoMemory) × IsFaultOf bytes fault × (text ≡ archive_fault_text fault)
 
--- the bytes, where there are some
+-- the bytes, if there are some
 abbrev pub bytes_in : Option (Vec ℕ Global) → Option (List ℕ)
 bytes_in bytes = option_map (λ (v : Vec ℕ Global). v.items) bytes
 

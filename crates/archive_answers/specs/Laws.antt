@@ -8,6 +8,6 @@ abbrev pub OneUnionDue : Type 0
 OneUnionDue = (file : List ℕ) (archive : Option (List ℕ)) (s t : Status) (x y : List ℕ) → IsUnionDue file archive s x → IsUnionDue file archive t y
     → (s ≡ t) × (x ≡ y)
 
--- where too many items begin, no answer is due
+-- if too many items begin, no answer is due
 abbrev pub ManyItemsAreNotAnswered : Type 0
 ManyItemsAreNotAnswered = (file : List ℕ) (archive : Option (List ℕ)) (s : Status) (x : List ℕ) → HasManyItems file → ¬ IsUnionDue file archive s x

@@ -64,7 +64,7 @@ IsUnionOfArchives file archive status.BadArchive text =
 IsUnionOfArchives file archive s text =
     (b : ArchiveView) × (a : ArchiveView) × IsArchiveIn (Some file) b × IsArchiveIn archive a × IsUnitedOrRefused a b.entries s text
 
--- what becomes of a union with items: the report on them where one has no key
+-- what becomes of a union with items: the report on them if one has no key
 abbrev pub AreItemsUnited : ArchiveView → List ItemView → Status → List ℕ → Type 0
 AreItemsUnited a items status.SomeRefused text = IsItemReport items false text
 AreItemsUnited a items s text = (es : List EntryView) × AreEntriesOfItems items es × IsUnitedOrRefused a es s text

@@ -48,7 +48,7 @@ fn fault_body<'a>(fault: ItemFault) -> OutcomeBody<'a>
     }
 }
 
-/// What is reported of what an item holds, and kinds of the classes of its net, where it has one.
+/// What is reported of what an item holds, and kinds of the classes of its net, if it has one.
 pub fn body_of<'a>(alloc: Global, body: ItemBody) -> Result<(OutcomeBody<'a>, Kinds), NoMemory>
     ensures told { IfOk result (λ keyed. (view : BodyView) →
         IsBodyOf view body → IsItemBodyOf view keyed.0) }

@@ -13,7 +13,7 @@ pub fn one_union_due()
     ensures theorem { OneUnionDue }
 {}
 
-/// Where too many items begin, no answer is due.
+/// If too many items begin, no answer is due.
 #[tactic(auto, using(crate::proofs::Unions::many_items))]
 pub fn many_items()
     ensures theorem { ManyItemsAreNotAnswered }

@@ -81,7 +81,7 @@ fn unite_archives(alloc: Global, file: &[u8], archive: Option<Vec<u8>>) -> Resul
     }
 }
 
-// The union of an archive with the items of a file, or the report on them where one has no key.
+// The union of an archive with the items of a file, or the report on them if one has no key.
 #[tactic(auto, using(crate::proofs::Unions::items_united))]
 fn unite_items(alloc: Global, file: &[u8], archive: Option<Vec<u8>>) -> Result<Answer, Silence>
     requires small { length file.now ≤ most_bytes }

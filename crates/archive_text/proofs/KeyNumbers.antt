@@ -31,7 +31,7 @@ enumerate_push n (x ∷ xs) y =
     let e : n + 1 + length xs ≡ n + suc (length xs) = omega arith in
     ap (λ ps. (n, x) ∷ ps) (enumerate_push (n + 1) xs y ∙ ap (λ k. enumerate_from (n + 1) xs ++ (k, y) ∷ []) e)
 
--- the place of the last number is one more, where that is x
+-- the place of the last number is one more, if that is x
 places_split : (xs : List ℕ) (y x : ℕ) → places_of (xs ++ y ∷ []) x ≡ places_of xs x ++ map (λ (p : ℕ × ℕ). p.0) (cond (y == x) ((0 + length xs, y) ∷ []) [])
 places_split xs y x = rw (enumerate_push 0 xs y, filter-append, map-append) refl
 
@@ -104,7 +104,7 @@ any_named t [] = refl
 any_named t (e ∷ es) = ap (λ b. t e.name || b) (any_named t es)
 
 module _ (es : List EntryView) where
-  -- a name is among all entries where it is among those with its fingerprint
+  -- a name is among all entries if it is among those with its fingerprint
   pub name_found : (name places names : List ℕ) → names ≡ map (λ (e : EntryView). name_print e.name) es → places ≡ places_of names (name_print name)
       → list_any (bytes_eq name) (names_of (entries_at es places)) ≡ list_any (bytes_eq name) (names_of es)
   name_found name places names i h =
@@ -160,7 +160,7 @@ module _ (key : List ℤ) where
           record { place = suc r.place; entry = r.entry; stands = r.stands; inside = omega (arith, inside); number = omega (arith, number); same = r.same }
 
   module _ (x : ℕ) where
-    -- where the fingerprint is another, so is the key
+    -- if the fingerprint is another, so is the key
     other_key : (e : EntryView) → x ≡ key_print key → (key_print e.key == x) ≡ false → same_key e.key key ≡ false
     other_key e hx h = search (arith, eq-eqb, same_keys)
 
@@ -227,7 +227,7 @@ no_group es place e at not g h =
     let same = only_group es place e at g h in
     not (ap (λ ns. slice_get ns 0) (sym same) ∙ first_there g h.is_group.two ∙ ap (λ (m : ℕ). Some m) h.first) (subst (λ ns. 2 ≤ length ns) same h.is_group.two)
 
--- one begins where they are two or more and begin there
+-- one begins if they are two or more and begin there
 pub some_group : (es : List EntryView) (place : ℕ) (key : List ℤ) (g : List ℕ) → g ≡ numbers_with key es → slice_get (numbers_with key es) 0 ≡ Some (place + 1)
     → 2 ≤ length g → IsGroupFrom es (place + 1) g
 some_group es place key g same begins two = grind (arith, first_there)
@@ -295,7 +295,7 @@ module _ (es : List EntryView) where
   pub no_more : (n : ℕ) (groups : List (List ℕ)) → AreGroupsTo es n groups → ((g : List ℕ) → IsGroupFrom es (n + 1) g → ⊥) → AreGroupsTo es (n + 1) groups
   no_more n groups a k = grind (arith, at_most_next)
 
-  -- where one begins, there is one more
+  -- if one begins, there is one more
   pub one_more : (n : ℕ) (groups more : List (List ℕ)) (group : List ℕ) → AreGroupsTo es n groups → IsGroupFrom es (n + 1) group → more ≡ groups ++ group ∷ []
       → AreGroupsTo es (n + 1) more
   one_more n groups more group a new q = subst (AreGroupsTo es (n + 1)) (sym q) (record {
@@ -312,7 +312,7 @@ module _ (es : List EntryView) where
         (λ k d l. let w = a.within (get_or groups k d) (Contains-get_or groups k d l) in let e = new.first in omega (arith, w, e));
   })
 
--- the lists in vectors, where one more vector is put last
+-- the lists in vectors, if one more vector is put last
 pub one_vector_more : (vs more : List (Vec ℕ Global)) (v : Vec ℕ Global) → more ≡ vs ++ v ∷ [] → numbers_in more ≡ numbers_in vs ++ v.items ∷ []
 one_vector_more vs more v q = ap numbers_in q ∙ map-append (λ (w : Vec ℕ Global). w.items) vs (v ∷ [])
 
@@ -332,7 +332,7 @@ after_first : {X : Type 0} (xs : List X) (x d : X) → 1 ≤ length xs → get_o
 after_first [] x d some is = absurd (omega (arith, some))
 after_first (y ∷ ys) x d some is = ap (λ z. z ∷ ys) is ∙ ap (λ l. x ∷ l) (sym (take_rest (y ∷ ys) 1))
 
--- the number of the entry at the first place, where that has the key, comes before those at the others
+-- the number of the entry at the first place, if that has the key, comes before those at the others
 pub number_first : (es : List EntryView) (key : List ℤ) (left : List ℕ) (e : EntryView) → 1 ≤ length left → slice_get es (get_or left 0 0) ≡ Some e
     → true ≡ same_key e.key key → numbers_at es key left ≡ (get_or left 0 0 + 1) ∷ numbers_at es key (take (length left - 1) (drop 1 left))
 number_first es key left e some stands same =
@@ -358,7 +358,7 @@ pub first_left : (sizes all : List ℕ) (left numbers : List ℤ) (z d : ℤ) �
 first_left sizes all left numbers z d joined whole short some is =
     number_there sizes z (take (length left - 1) (drop 1 left)) all short (ap (λ l. map pos sizes ++ l) (sym (after_first left z d some is)) ∙ joined ∙ whole)
 
--- where no sizes have these numbers, no `shells` row stands there
+-- if no sizes have these numbers, no `shells` row stands there
 pub no_shells : {X : Type 0} (o : Option X) (numbers : List ℤ) (class : ℕ) (left : List ℕ)
     → ((sizes rest : List ℕ) → AreSizes sizes → left ≡ shells_row class sizes ++ 10 ∷ rest → numbers ≡ shells_numbers class sizes)
     → ((sizes : List ℕ) → AreSizes sizes → numbers ≡ shells_numbers class sizes → IfNone o ⊥) → IfNone o (NoShells class left)

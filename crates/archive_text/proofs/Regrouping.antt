@@ -220,7 +220,7 @@ first_found p (y ∷ ys) l = by (p y) refl (first_found p ys) l
           all = ap (λ t. cond (not t) (y ∷ filter (λ x. not (p x)) f.before) (filter (λ x. not (p x)) f.before)) e ∙ ap (λ l. y ∷ l) f.all;
         }
 
--- where none passes
+-- if none passes
 pub none_found : {X : Type 0} (p : X → Bool) (xs : List X) → length xs ≤ position_or_len p xs → (filter p xs ≡ []) × (filter (λ x. not (p x)) xs ≡ xs)
 none_found p [] l = (refl, refl)
 none_found p (y ∷ ys) l = by (p y) refl (none_found p ys) l

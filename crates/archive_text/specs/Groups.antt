@@ -6,7 +6,7 @@ pub use Rattle.coordination.specs.Sequences.{numbers_in}
 use Rattle.archive_text.specs.Entries.{EntryView}
 use Rattle.archive_text.specs.Lookups.{same_key}
 
--- the numbers of the entries with this key, where the first entry has number n
+-- the numbers of the entries with this key, if the first entry has number n
 abbrev pub numbers_from : ℕ → List ℤ → List EntryView → List ℕ
 numbers_from n key entries = map (λ (p : ℕ × EntryView). p.0) (filter (λ (p : ℕ × EntryView). same_key p.1.key key) (enumerate_from n entries))
 

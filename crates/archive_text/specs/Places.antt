@@ -8,7 +8,7 @@ use Rattle.std.specs.HashMap.{HashMap, get}
 abbrev pub places_of : List ℕ → ℕ → List ℕ
 places_of xs x = map (λ p. p.0) (filter (λ p. p.1 == x) (enumerate_from 0 xs))
 
--- the places that are kept for a number, none where nothing is kept
+-- the places that are kept for a number, none if nothing is kept
 abbrev pub listed : Option (Vec ℕ Global) → List ℕ
 listed None = []
 listed (Some places) = places.items

@@ -19,7 +19,7 @@ pub fn count_from(numbers: &[i128]) -> Option<u32>
     between(*n, 1, MOST_VERTICES as u32)
 }
 
-// The number, where it has 32 bits.
+// The number, if it has 32 bits.
 fn short(n: &i128) -> Option<u32>
     ensures found { IfSome result (λ k. n.now ≡ pos k) }
     ensures form { IfSome result IsShort }
@@ -33,7 +33,7 @@ fn short(n: &i128) -> Option<u32>
     }
 }
 
-// The numbers, where all have 32 bits.
+// The numbers, if all have 32 bits.
 fn short_numbers(alloc: Global, numbers: &[i128]) -> Result<Option<Vec<u32>>, NoMemory>
     ensures found { IfOk result (λ read. IfSome read (λ sizes. numbers.now ≡ map pos sizes.items)) }
     ensures form { IfOk result (λ read. IfSome read (λ sizes. All IsShort sizes.items)) }
@@ -52,7 +52,7 @@ fn short_numbers(alloc: Global, numbers: &[i128]) -> Result<Option<Vec<u32>>, No
     Ok(Some(sizes))
 }
 
-/// The sizes that the numbers of a `shells` row say, where they are those of a class.
+/// The sizes that the numbers of a `shells` row say, if they are those of a class.
 pub fn sizes_from(alloc: Global, class: u32, numbers: &[i128]) -> Result<Option<Vec<u32>>, NoMemory>
     ensures found { IfOk result (λ read.
         IfSome read (λ sizes. numbers.now ≡ shells_numbers class sizes.items)) }

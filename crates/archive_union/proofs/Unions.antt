@@ -72,7 +72,7 @@ from_passing p (y ∷ xs) x c = by (p y) refl c (λ later. from_passing p xs x l
 
 -- The entries of an archive with those of items.
 
--- the entries after one item, where it is known whether that is there
+-- the entries after one item, if it is known whether that is there
 abbrev after_item : List EntryView → EntryView → Bool → List EntryView
 after_item entries item there = cond there entries (entries ++ item ∷ [])
 

@@ -13,7 +13,7 @@ abbrev pub IsUniteFault : ArchiveView → List EntryView → UniteFault → Type
 IsUniteFault a items (NotAdded number fault) = IsNotUnited a items number fault
 IsUniteFault a items NoMemory = Unit {0}
 
--- what is reported where the item with this number is not added
+-- what is reported if the item with this number is not added
 abbrev pub fault_of_add : ℕ → AddFault → UniteFault
 fault_of_add number add.NoMemory = NoMemory
 fault_of_add number fault = NotAdded number fault

@@ -13,7 +13,7 @@ use Rattle.net_archive.specs.Deciding.{KeysDecideArchive, StandTogetherBy, is_th
 use Rattle.net_archive.specs.declared.faults.AddFault.{AddFault}
 use Rattle.net_archive.specs.declared.faults.AddFault.TheVariants as add
 
--- the entries and one more, where no entry has both its name and its key
+-- the entries and one more, if no entry has both its name and its key
 abbrev pub with_item : List EntryView → EntryView → List EntryView
 with_item entries item = if is_there entries item.name item.key then entries else entries ++ item ∷ []
 

@@ -32,7 +32,7 @@ sum_argument v h = let x = h.0 in let y = h.1 in let z = h.2 in (omega (arith, x
 pub sum_within : (v : Vector) → IsWithin (2 ^ 102 + most_units * most_shift) v → IsWithin (2 ^ 125) v
 sum_within v h = let x = h.0 in let y = h.1 in let z = h.2 in (omega (arith, x), omega (arith, y), omega (arith, z))
 
--- where n times the fraction is whole, its denominator divides n
+-- if n times the fraction is whole, its denominator divides n
 pub denominator_divides : (r : Ratio) (n : ℕ) (y : ℤ) → IsInLowestTerms r → r.num *ℤ pos n ≡ y *ℤ pos r.den → r.den ∣ n
 denominator_divides r n y h e =
     let sizes : unsigned_abs r.num * n ≡ r.den * unsigned_abs y = sym (unsigned_abs-mul r.num (pos n)) ∙ ap unsigned_abs e ∙ unsigned_abs-mul y (pos r.den)

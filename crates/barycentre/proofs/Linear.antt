@@ -1,5 +1,5 @@
--- Gains are linear, and depend on the values at the vertices alone. Where modulo k and modulo l only 0 solves the homogeneous equations, so it is modulo
--- k·l. Mean equations between whole numbers, as equations between integers. Where modulo m only 0 solves the homogeneous equations, the denominator of
+-- Gains are linear, and depend on the values at the vertices alone. If modulo k and modulo l only 0 solves the homogeneous equations, so it is modulo
+-- k·l. Mean equations between whole numbers, as equations between integers. If modulo m only 0 solves the homogeneous equations, the denominator of
 -- the normal placement is coprime to m, and a solution modulo m, times the denominator, is the placement modulo m.
 use Rattle.std.proofs.Common.{◌≡◌, ℕ, List, [], ◌∷◌, arith, refl, ap, ◌∙◌, ◌*◌, ◌≤◌, sym, subst, ◌≢◌, map}
 use Rattle.std.specs.Prelude.{ℤ, pos, ◌+ℤ◌, ◌-ℤ◌, ◌*ℤ◌, int_div, neg_ℤ}
@@ -68,7 +68,7 @@ gains_same G g x y e u = total_same (λ a. x a.to -ℤ x a.from) (λ a. y a.to -
 pub left_factor : (k l : ℕ) (z : ℤ) → DividesInteger (k * l) z → DividesInteger k z
 left_factor k l z h = (pos l *ℤ h.0, h.1 ∙ product_associative (pos k) (pos l) h.0)
 
--- where k·l divides k·z, l divides z
+-- if k·l divides k·z, l divides z
 pub right_factor : (k l : ℕ) → 1 ≤ k → (z : ℤ) → DividesInteger (k * l) (pos k *ℤ z) → DividesInteger l z
 right_factor k l p z h = (h.0, cancel_factor (pos k) z (pos l *ℤ h.0) (positive_not_zero k p) (h.1 ∙ product_associative (pos k) (pos l) h.0))
 
@@ -121,7 +121,7 @@ minus_whole a b = ap whole (step a b)
     step : (a b : ℤ) → a *ℤ pos 1 -ℤ b *ℤ pos 1 ≡ a -ℤ b
     step a b = simp ring refl
 
--- a whole number is 0 modulo m where m divides it
+-- a whole number is 0 modulo m if m divides it
 pub same_zero : (m : ℕ) (z : ℤ) → Same m (whole z) (whole (pos 0)) → DividesInteger m z
 same_zero m z s = ((difference_multiple s).0, step z (pos m *ℤ (difference_multiple s).0) (difference_multiple s).1)
   where

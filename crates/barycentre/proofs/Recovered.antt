@@ -74,7 +74,7 @@ are_positions {D} G rows e solved flat = record {
   first = λ c l. (solved c l).1;
 }
 
--- where x/n is num/den in lowest terms, den divides n
+-- if x/n is num/den in lowest terms, den divides n
 pub lowest_divides : (x num : ℤ) (n den : ℕ) → IsLowest x n num den → den ∣ n
 lowest_divides x num n den h =
     denominator_divides (record { num = num; den = den }) n x (record { positive = h.positive; coprime = h.reduced }) (sym h.same)

@@ -1,5 +1,5 @@
 -- A solution modulo M and one of what is left of it, in rows: two steps, whose reconstructions are the normal placement. What two solutions by residues
--- recover: the normal placement, where it is within the limits. What is left modulo M: exact quotients, and rows that are made one after another. The
+-- recover: the normal placement, if it is within the limits. What is left modulo M: exact quotients, and rows that are made one after another. The
 -- answers of `place` exclude each other: NoModulus comes if and only if its cause holds.
 use Rattle.std.proofs.Common.{◌≡◌, ℕ, zero, suc, arith, ◌-◌, ◌<◌, ◌^◌, List, [], ◌∷◌, length, map, get_or, ap, sym, refl, ◌∙◌, Option, Some, None, ⊎_elim}
 use Rattle.std.proofs.Common.{◌+◌, ◌≤◌, subst, IsTrue, nat_eq, rules, ◌*◌, unsigned_abs, ◌%◌, FitsSigned, pos, to_z, of_z, ℤ, ◌++◌, inl, inr}
@@ -371,7 +371,7 @@ module _ (m : ℕ) (fits : Ratio → Type 0) (es : List Entry) (e : Entry) (h : 
   entry_stands = subst (λ xs. Contains xs e) (sym h.split) (Contains-append_right h.before (e ∷ h.after) e
       (0, (let l : 0 < suc (length h.after) = omega arith in l), refl))
 
-  -- so where all are good, it is
+  -- so if all are good, it is
   good_there : AreGood m fits es → IsGood m fits e
   good_there g = All-contains (IsGood m fits) es e g.all entry_stands
 

@@ -15,7 +15,7 @@ residue_value r = whole (pos r.value)
 abbrev pub residue_part : {M D : ℕ} → Row (Residue M) D → ℕ → ℕ
 residue_part r = by_coordinate r.x.value r.y.value r.z.value
 
--- part c of the row of vertex u, which is counted from 1; 0 where there is none
+-- part c of the row of vertex u, which is counted from 1; 0 if there is none
 abbrev pub residue_at : {M D : ℕ} → List (Row (Residue M) D) → ℕ → ℕ → ℕ
 residue_at rows c u = option_map_or (λ r. residue_part r c) (slice_get rows (u - 1)) 0
 

@@ -75,7 +75,7 @@ record HasKeyedGraph (raw : RawView) (xs : List ℤ) : Type 0 where
 some_is : {A : Type 0} (x y : A) → Some x ≡ Some y → x ≡ y
 some_is x y e = ap (λ o. unwrap_or o x) e
 
--- a net with a key is reported only where the key is asked for
+-- a net with a key is reported only if the key is asked for
 keyed_told : (entries : List EntryView) (command : Command) (raw : RawView) (body : OutcomeBody) (xs : List ℤ) → IsBodyOf entries command (Net raw) body
     → key_told body ≡ Some xs → HasKeyedGraph raw xs
 keyed_told entries Key raw (Keyed size net) xs h e = record {
@@ -113,7 +113,7 @@ record HasRefusedGraph (command : Command) (raw : RawView) (refusal : Refusal) :
   pub may : MayTell command refusal
   pub is_true : IsTrueOf graph refusal
 
--- a refusal is reported only where it is true
+-- a refusal is reported only if it is true
 refused_told : (entries : List EntryView) (command : Command) (raw : RawView) (body : OutcomeBody) (refusal : Refusal)
     → IsBodyOf entries command (Net raw) body
     → refusal_told body ≡ Some refusal → HasRefusedGraph command raw refusal
@@ -126,7 +126,7 @@ refused_told entries command raw (Refused size names given) refusal h e = record
 }
 refused_told entries command raw body refusal h e = absurd (true≢false (sym (ap is_some e)))
 
--- a graph in order whose net is connected, and has a key where another refusal of the net may be reported
+-- a graph in order whose net is connected, and has a key if another refusal of the net may be reported
 record HasAcceptedGraph (command : Command) (raw : RawView) : Type 0 where
   pub graph : Graph
   pub in_order : IsInOrder (graph_of raw) graph
@@ -146,7 +146,7 @@ accepted_by_key command raw xs a =
       keyable = λ refusal m r. inr k;
     }
 
--- an accepted graph is so; where its key is not asked for, no other refusal of the net is reported
+-- an accepted graph is so; if its key is not asked for, no other refusal of the net is reported
 accepted_graph : (entries : List EntryView) (command : Command) (raw : RawView) (body : OutcomeBody) → IsBodyOf entries command (Net raw) body
     → is_accepted_body body ≡ true → HasAcceptedGraph command raw
 accepted_graph entries Check raw (Checked size) h e = record {
@@ -188,7 +188,7 @@ module _ (entries : List EntryView) (command : Command) (bs : List BlockView) (o
   accepted_at : (i : ℕ) (raw : RawView) → IsAcceptedAt bs os i raw → HasAcceptedGraph command raw
   accepted_at i raw k = accepted_graph entries command raw k.outcome.body (told_at entries command bs os h i k.block k.outcome raw k.at k.graph) k.told
 
-  -- an accepted net is connected, and has a key where another refusal may be reported; a refused one is not, or has none
+  -- an accepted net is connected, and has a key if another refusal may be reported; a refused one is not, or has none
   pub refused_are_apart : RefusedAreApart bs os
   refused_are_apart i j raw raw' k l e =
       let a = refused_at i raw k in let b = accepted_at j raw' l in
@@ -248,7 +248,7 @@ certain_not_refused command raw size names refusal g h certain =
     let none = certain_is_not_refused h.graph refusal is_graph (certain h.graph h.read.in_order) h.is_true in
     subst (MayTell command) none h.may
 
--- so what is reported of a certain graph accepts it, but where its components are asked for
+-- so what is reported of a certain graph accepts it, but if its components are asked for
 accepted_told : (entries : List EntryView) (command : Command) (raw : RawView) (told : OutcomeBody) → IsGraph (graph_of raw)
     → IsBodyOf entries command (Net raw) told → command ≢ Components
     → ((G : Graph) → IsInOrder (graph_of raw) G → IsCertain G) → is_accepted_body told ≡ true

@@ -150,7 +150,7 @@ shown_next : (os : List Outcome) (o : Outcome) (accepted this : Bool) → accept
     → (accepted && this) ≡ list_all is_accepted (os ++ o ∷ [])
 shown_next os o accepted this h k = ap (λ (b : Bool). accepted && b) k ∙ ap (λ (b : Bool). b && is_accepted o) h ∙ sym (accepted_last os o)
 
--- so it is where the components are reported
+-- so it is if the components are reported
 parts_last : (bs : List BlockView) (os : List Outcome) (each : List Bool) (b : BlockView) (o : Outcome) (this : Bool) → AreAcceptedInParts bs os each
     → IsAcceptedInParts b.body o.body this
     → AreAcceptedInParts (bs ++ b ∷ []) (os ++ o ∷ []) (each ++ this ∷ [])

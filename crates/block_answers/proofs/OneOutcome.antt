@@ -116,7 +116,7 @@ pub record SpeakAlike (a b : OutcomeBody) : Type 0 where
   pub accepted : is_accepted_body a ≡ is_accepted_body b
   pub key : key_told a ≡ key_told b
 
--- where components are asked for no refusal of the whole net is reported
+-- if components are asked for no refusal of the whole net is reported
 none_of_components : (r : Refusal) → ¬ MayTell Components r
 none_of_components r h = search arith
 
@@ -226,7 +226,7 @@ module _ (raw : RawView) where
       let size = same_size s t a.graph b.graph a.read b.read in let told = divided_alike s t x y xs ys a b in
       record { text = λ i. size_text (size i) ++ told.1 i; accepted = refl; key = refl }
 
--- this is reported of a block where it is accepted: its net with its key
+-- this is reported of a block if it is accepted: its net with its key
 pub record IsToldNet (view : BodyView) (body : OutcomeBody) : Type 0 where
   pub net : AnyNet
   pub told_is : net_told body ≡ Some net

@@ -18,7 +18,7 @@ refused_parted G (Collision dim u v t) g h r early c = absurd early
 refused_parted G (TooMuch done counted) g h r early c = absurd early
 refused_parted G refusal g t r early c = absurd r
 
--- where a command asks no further than for the placement, it reports no collision and no key work, so a refusal of the net is such a colouring
+-- if a command asks no further than for the placement, it reports no collision and no key work, so a refusal of the net is such a colouring
 pub told_early : (command : Command) → ((dim u v : ℕ) (t : Vector) → ¬ MayTell command (Collision dim u v t))
     → ((done counted : ℕ) → ¬ MayTell command (TooMuch done counted)) → (refusal : Refusal) → MayTell command refusal → IsOfNet refusal
     → IsOfConnecting refusal

@@ -44,7 +44,7 @@ pub record ArePartsToldFrom (names : List (List ℕ)) (number : ℕ) (ps : List 
   pub all : accepted ≡ list_all has_key answers
   pub text : new ≡ old ++ parts_from names number ps answers
 
--- all parts of the net are reported, each with its answer; the net is accepted where each has a key
+-- all parts of the net are reported, each with its answer; the net is accepted if each has a key
 pub record ArePartsTold (G : Graph) (names : List (List ℕ)) (accepted : Bool) (lines : List ℕ) : Type 0 where
   pub ps : List Part
   pub are_parts : AreParts G ps

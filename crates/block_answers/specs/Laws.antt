@@ -30,7 +30,7 @@ OneReport = (command : Command) (entries : List EntryView) (blocks : List BlockV
     → IsReport command entries blocks y t
     → (x ≡ y) × (s ≡ t)
 
--- where a refusal of the net is true of a graph, no bijection between its vertices and those of a net with a key within the limits joins
+-- if a refusal of the net is true of a graph, no bijection between its vertices and those of a net with a key within the limits joins
 -- images if and only if the vertices are joined
 abbrev pub RefusalsTell : Type 0
 RefusalsTell = (G H : Graph) (refusal : Refusal) → IsGraph G → IsGraph H → IsTrueOf G refusal → IsOfNet refusal → IsKeyable H → ¬ BareIso G H

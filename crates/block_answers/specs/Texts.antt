@@ -37,7 +37,7 @@ fault_details names dim NoMemory = []
 abbrev pub part_fault_text : List (List ℕ) → ℕ → PartFault → List ℕ
 part_fault_text names dim fault = codes "components refused " ++ fault_name fault ++ fault_details names dim fault ++ codes "\n"
 
--- the fault has a line with these names: where there are names, each vertex that is shown has one
+-- the fault has a line with these names: if there are names, each vertex that is shown has one
 abbrev pub HasFaultLine : List (List ℕ) → PartFault → Type 0
 HasFaultLine names (LowRank u c) = IsNamed names u
 HasFaultLine names (WideShift u v s c value) = IsNamed names u × IsNamed names v

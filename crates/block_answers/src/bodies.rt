@@ -33,7 +33,7 @@ fn size_of(raw: &RawGraph<'_>) -> Size
     }
 }
 
-// The refusal with the vertex names, where it is one.
+// The refusal with the vertex names, if it is one.
 fn refused_body<'a>(raw: &RawGraph<'a>, refusal: Refusal) -> Result<OutcomeBody<'a>, NoMemory>
     requires { IsReadGraph (raw_view raw.now) }
     ensures told { IfOk result (λ body.
@@ -219,7 +219,7 @@ pub fn body_of<'a>(
     }
 }
 
-/// What `key` reports on a block, and kinds of the classes of its net, where it has one.
+/// What `key` reports on a block, and kinds of the classes of its net, if it has one.
 pub fn keyed_body_of<'a>(
     alloc: Global,
     block: &Block<'a>,

@@ -185,7 +185,7 @@ fn tell_fault(
     })
 }
 
-/// The lines of the components of a net, whose vertices have these names. The net is accepted where
+/// The lines of the components of a net, whose vertices have these names. The net is accepted if
 /// it is divided into parts that all have a key.
 pub fn tell_components(
     alloc: Global,

@@ -157,7 +157,7 @@ is_cut (suc n) (b ∷ l) fits =
 
 -- What the kind of a token says of its text.
 
--- the kind that a part has, where it has one, is that of its bytes
+-- the kind that a part has, if it has one, is that of its bytes
 abbrev pub IsOfItsKind : Option TokenKind → List ℕ → Type 0
 IsOfItsKind None bytes = Unit {0}
 IsOfItsKind (Some kind) bytes = IsOfKind kind bytes

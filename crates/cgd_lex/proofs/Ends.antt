@@ -30,7 +30,7 @@ within p (b ∷ bs) = elim (p b) as (λ t. cond t (1 + prefix_len p bs) 0 ≤ le
 pub found_within : (p : ℕ → Bool) (bs : List ℕ) (k : ℕ) → position p bs ≡ Some k → k < length bs
 found_within p bs k some = grind (arith, common_steps, some)
 
--- where no byte passes a test, all fail it
+-- if no byte passes a test, all fail it
 pub no_end : (p : ℕ → Bool) (bs : List ℕ) → position p bs ≡ None → prefix_len (λ x. not (p x)) bs ≡ length bs
 no_end p bs none = grind (arith, common_steps, none, within (λ x. not (p x)) bs)
 

@@ -64,7 +64,7 @@ between before part rest = ap (take (length part)) (drop-append_seam before (par
 lines_before : (before rest : List ℕ) → line_number (before ++ rest) (length before) ≡ feeds before + 1
 lines_before before rest = ap (λ bytes. feeds bytes + 1) (take-append_seam before rest)
 
--- the token of a part, where it has one, and those after it
+-- the token of a part, if it has one, and those after it
 with_part : (before part rest : List ℕ) (kind : Option TokenKind) (from at line : ℕ) (tokens : List TokenView)
     → at ≡ length before → line ≡ feeds before + 1 → from ≤ at → IsOfItsKind kind part
     → ArePlaced (before ++ (part ++ rest)) (at + length part) tokens

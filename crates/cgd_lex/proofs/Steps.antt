@@ -83,7 +83,7 @@ with_piece : (at line b : ℕ) (l : List ℕ) (p : Piece) → first_piece b l �
     ++ tokens_of_line (at + 1 + length (other_bytes p)) line (drop (length (other_bytes p)) l)
 with_piece at line b l p is fits first = grind (arith, passed)
 
--- where the first line has room for the first piece
+-- if the first line has room for the first piece
 pub one_piece : (at line b : ℕ) (bs : List ℕ) (p : Piece) → (b == 10) ≡ false → first_piece b (first_line bs) ≡ p
     → length (other_bytes p) ≤ length (first_line bs) → first_byte p ≡ b →
     tokens_from at line (b ∷ bs) ≡ token_at at line (b ∷ other_bytes p) (kind_of_piece p)

@@ -68,7 +68,7 @@ abbrev pub StartsNoRun : List ℕ → Type 0
 StartsNoRun [] = Unit {0}
 StartsNoRun (b ∷ bs) = is_run_byte b ≡ false
 
--- a piece may stand where these bytes of its line follow it
+-- a piece may stand if these bytes of its line follow it
 abbrev pub MayStand : Piece → List ℕ → Type 0
 MayStand (Blank b) rest = IsTrue (is_blank b)
 MayStand (Comment bs) rest = rest ≡ []

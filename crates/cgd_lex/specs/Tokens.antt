@@ -40,7 +40,7 @@ kind_of_piece (Unclosed bs) = Some Bad
 kind_of_piece (Control b) = Some Bad
 kind_of_piece (Run b bs) = Some (kind_of_run (b ∷ bs))
 
--- the token of these bytes at this place and line, where there is one
+-- the token of these bytes at this place and line, if there is one
 abbrev pub token_at : ℕ → ℕ → List ℕ → Option TokenKind → List TokenView
 token_at at line bytes None = []
 token_at at line bytes (Some kind) = record { kind = kind; text = bytes; start = at; line = line } ∷ []

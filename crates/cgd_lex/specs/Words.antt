@@ -26,7 +26,7 @@ inner text = take (length text - 2) (drop 1 text)
 abbrev pub unquoted : TokenView → List ℕ
 unquoted token = if is_quoted token.kind then inner token.text else token.text
 
--- the name that a token gives, where it is not bad
+-- the name that a token gives, if it is not bad
 abbrev pub name_in : TokenView → Option (List ℕ)
 name_in token = if is_bad token.kind then None else Some (unquoted token)
 
@@ -42,11 +42,11 @@ next_value n digit = n * 10 + (digit - 48)
 abbrev pub whole_value : List ℕ → ℕ
 whole_value digits = fold next_value 0 digits
 
--- the value of digits, where it is at most this
+-- the value of digits, if it is at most this
 abbrev pub magnitude_up_to : ℕ → List ℕ → Option ℕ
 magnitude_up_to most digits = if nat_lt most (whole_value digits) then None else Some (whole_value digits)
 
--- the value of a sign or none and then digits, where it is at most this as an absolute value; 45 is the sign minus, and 43 is plus
+-- the value of a sign or none and then digits, if it is at most this as an absolute value; 45 is the sign minus, and 43 is plus
 abbrev pub number_up_to : ℕ → List ℕ → Option ℤ
 number_up_to most [] = None
 number_up_to most (b ∷ bytes) =

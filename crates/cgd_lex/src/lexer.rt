@@ -56,7 +56,7 @@ impl<'a> Lexer<'a> {
         }
     }
 
-    // Passes over a space, where one is next.
+    // Passes over a space, if one is next.
     #[inline(always)]
     fn skip_space(&mut self)
         ensures { self.new ≡ self.old }

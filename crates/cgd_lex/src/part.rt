@@ -33,7 +33,7 @@ fn measure_run(first: u8, others: &[u8]) -> (TokenKind, usize)
     }
 }
 
-// How many bytes a run takes after its first, where it has digits alone. Most runs do, and then no
+// How many bytes a run takes after its first, if it has digits alone. Most runs do, and then no
 // byte is looked at twice.
 fn digits_after(first: u8, others: &[u8]) -> Option<usize>
     ensures kind { IfSome result (λ size.
@@ -51,7 +51,7 @@ fn digits_after(first: u8, others: &[u8]) -> Option<usize>
     None
 }
 
-// The kind of the token that begins with `first`, where there is one, and how many bytes the part
+// The kind of the token that begins with `first`, if there is one, and how many bytes the part
 // takes after it.
 fn measure(first: u8, others: &[u8]) -> (Option<TokenKind>, usize)
     requires { first ≢ line_feed }
@@ -99,7 +99,7 @@ fn part_in_line<'a>(text: &'a [u8], first: u8, others: &'a [u8]) -> Part<'a>
     }
 }
 
-/// The first part of a text, where the text has any byte.
+/// The first part of a text, if the text has any byte.
 pub(crate) fn first_part<'a>(text: &'a [u8]) -> Option<Part<'a>>
     ensures part { MatchOption result (text.now ≡ []) (IsPartOf text.now) }
     ensures size { IfSome result (λ part.

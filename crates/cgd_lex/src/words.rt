@@ -61,7 +61,7 @@ fn in_turn(cap: u32, digits: &[u8]) -> u32
         .fold(0, |value, digit| next_value(cap, value, *digit))
 }
 
-// The value of the digits, where it is at most the cap, and otherwise the cap.
+// The value of the digits, if it is at most the cap, and otherwise the cap.
 fn capped_value(cap: u32, digits: &[u8]) -> u32
     requires { cap ≤ 2 ^ 16 }
     ensures { result ≡ min cap (whole_value digits.now) }
@@ -78,7 +78,7 @@ fn magnitude(digits: &[u8], most: u32) -> Option<u32>
     if value == most + 1 { None } else { Some(value) }
 }
 
-/// The value of a sign or none and then digits, of which there may be any number, where it is from
+/// The value of a sign or none and then digits, of which there may be any number, if it is from
 /// -`most` to `most`.
 pub fn number_up_to(text: &[u8], most: u32) -> Option<i32>
     requires { most < 2 ^ 16 }

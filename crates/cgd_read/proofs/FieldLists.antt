@@ -103,7 +103,7 @@ pub all_fields : (ts : List TokenView) → with_all no_fields ts ≡ fields_of t
 all_fields ts = same (with_all no_fields ts) (fields_of ts) (sizes no_fields ts ∙ omega arith) (names ts) (any_strange no_fields ts) (late_quotes ts)
     (far_parts ts) (us ts) (vs ts) (xs ts) (ys ts) (zs ts)
 
--- the same, with the first token before them where it is a field
+-- the same, with the first token before them if it is a field
 pub fields_after : (bare : Bool) (first : TokenView) (others : List TokenView)
     → with_all (cond bare (with_field no_fields first) no_fields) others ≡ fields_of (cond bare (first ∷ others) others)
 fields_after true first others = all_fields (first ∷ others)

@@ -95,6 +95,6 @@ last_place (x ∷ xs) u v e = by (bytes_eq v x) (last_place xs u v) e
     by true h e = absurd (omega (arith, e))
     by false h e = h (omega (arith, e))
 
--- the two vertices of a row have one number only where they are the same
+-- the two vertices of a row have one number only if they are the same
 pub same_number : (names : List (List ℕ)) (u v : List ℕ) → vertex_number names u ≡ vertex_number (with_new bytes_eq names u) v → u ≡ v
 same_number names u v e = grind (arith, same_place, last_place, place_none)

@@ -15,7 +15,7 @@ one_true (test ∷ tests) kind (inr h) = ap (λ t. cond t (Some test.0) (first_t
 this_false : {K : Type 0} (t : Bool) (kind : K) (later : Option K) → cond t (Some kind) later ≡ None → (t ≡ false) × (later ≡ None)
 this_false t kind later h = search arith
 
--- none is true where there is no first one
+-- none is true if there is no first one
 pub all_false : {K : Type 0} (tests : List (K × Bool)) → first_true tests ≡ None → AllFalse tests
 all_false [] e = tt
 all_false (test ∷ tests) e =

@@ -66,7 +66,7 @@ AreBlocksOf text blocks = blocks ≡ blocks_of text
 abbrev pub IsGraphBlock : ℕ → List LineView → BlockView → Type 0
 IsGraphBlock opening lines block = IsUnit graph_units opening lines block
 
--- where the body is a graph, it is one that may be read
+-- if the body is a graph, it is one that may be read
 abbrev pub IsReadBody : Body → Type 0
 IsReadBody (Graph raw) = IsReadGraph (raw_view raw)
 IsReadBody (Unsupported token) = Unit {0}

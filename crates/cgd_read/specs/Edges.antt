@@ -46,7 +46,7 @@ abbrev pub repeats_of : List FieldsView → ℕ
 repeats_of [] = 0
 repeats_of (row ∷ rows) = if is_repeat rows row then repeats_of rows + 1 else repeats_of rows
 
--- the number of fields of the first row, or 0 where there is none
+-- the number of fields of the first row, or 0 if there is none
 abbrev pub first_size : List FieldsView → ℕ
 first_size [] = 0
 first_size (row ∷ rows) = if first_size rows == 0 then row.size else first_size rows

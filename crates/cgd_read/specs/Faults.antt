@@ -33,7 +33,7 @@ is_unknown Unknown = true
 is_unknown Opening = true
 is_unknown _ = false
 
--- a line of this kind has a row, where it has fields
+-- a line of this kind has a row, if it has fields
 abbrev pub may_have_row : LineKind → Bool
 may_have_row Edges = true
 may_have_row Bare = true

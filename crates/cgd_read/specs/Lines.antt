@@ -16,7 +16,7 @@ is_strange Word = true
 is_strange Bad = true
 is_strange _ = false
 
--- the name on a name line, where there is one field and it is not bad
+-- the name on a name line, if there is one field and it is not bad
 abbrev pub name_of_fields : List TokenView → Option (List ℕ)
 name_of_fields (token ∷ []) = name_in token
 name_of_fields _ = None
@@ -26,7 +26,7 @@ abbrev pub text_of_first : List TokenView → List ℕ
 text_of_first [] = []
 text_of_first (token ∷ tokens) = token.text
 
--- a part of a shift, or 0 where it is out of the limits
+-- a part of a shift, or 0 if it is out of the limits
 abbrev pub part_or_zero : Option ℤ → ℤ
 part_or_zero None = pos 0
 part_or_zero (Some x) = x
@@ -101,7 +101,7 @@ pub record LineView : Type 0 where
   pub first : List ℕ
   pub fields : FieldsView
 
--- the fields of a line: without its first token, where that is a keyword
+-- the fields of a line: without its first token, if that is a keyword
 abbrev pub fields_from : LineKind → TokenView → List TokenView → List TokenView
 fields_from kind first others = if is_bare kind then first ∷ others else others
 
@@ -114,7 +114,7 @@ line_with first others = record {
   fields = fields_of (fields_from (kind_of first.kind first.text) first others);
 }
 
--- the line that these tokens make, where there is any
+-- the line that these tokens make, if there is any
 abbrev pub line_of : List TokenView → List LineView
 line_of [] = []
 line_of (first ∷ others) = line_with first others ∷ []

@@ -68,7 +68,7 @@ fn read_line<'a>(lexer: &mut Lexer<'a>, first: &Token<'a>) -> Line<'a>
 #[inline(always)]
 pub fn next_line<'a>(lexer: &mut Lexer<'a>) -> Option<Line<'a>>
     requires { length lexer.old ≤ longest_text }
-    // The first of the lines that are left, or none where none is left.
+    // The first of the lines that are left, or none if none is left.
     ensures lines { MatchOption result (token_lines lexer.old ≡ [])
         (λ line. token_lines lexer.old ≡ line_view line ∷ token_lines lexer.new) }
     ensures shorter { IfSome result (λ line. length lexer.new < length lexer.old) }

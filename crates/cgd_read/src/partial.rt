@@ -26,7 +26,7 @@ pub struct PartialGraph<'a> {
     pub edges: IndexSet<RawEdge>,
 }
 
-// The place of a name, which is put last where it is new.
+// The place of a name, which is put last if it is new.
 #[inline(always)]
 fn place_of<'a>(names: &mut IndexSet<&'a [u8]>, name: &'a [u8]) -> Result<usize, NoMemory>
     ensures names { OnOk result (

@@ -147,7 +147,7 @@ pub fn blocks<'a>(alloc: Global, text: &'a [u8]) -> Result<Vec<Block<'a>>, ReadR
     ensures blocks { IfOk result (λ found. AreBlocksOf text.now (views found.items)) }
     // Each graph that was read is a quotient graph within the limits.
     ensures graphs { IfOk result (λ found. All (λ block. IsReadBody block.body) found.items) }
-    // A text of more blocks is refused, and no other text but where memory ran out.
+    // A text of more blocks is refused, and no other text but if memory ran out.
     ensures few { OnOk result (length (blocks_of text.now) ≤ most_blocks) }
     ensures too_many { IsErrOf result ReadRefusal.TooManyBlocks →
         most_blocks < length (blocks_of text.now) }

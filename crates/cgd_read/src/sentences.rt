@@ -53,7 +53,7 @@ impl LineKind {
         }
     }
 
-    /// The name so far, after one more line, which gives this name where it is a name line.
+    /// The name so far, after one more line, which gives this name if it is a name line.
     pub fn name_after<'a>(
         self,
         name: Option<&'a [u8]>,

@@ -164,7 +164,7 @@ impl<'a> State<'a> {
         }
     }
 
-    /// The fault of a line, where it has one. Else the line is added to what is kept.
+    /// The fault of a line, if it has one. Else the line is added to what is kept.
     pub fn judge(&mut self, line: &Line<'a>) -> Result<Option<BlockFaultKind>, NoMemory>
         requires small { IsSmallFields (fields_view line.now.fields) }
         requires room { length (names_in self.old.graph.names) ≤ most_vertices }

@@ -6,7 +6,7 @@ ghost use Rattle.cgd_read.specs.Values.{part_of};
 use cgd_lex::number_up_to;
 use periodic_net::MOST_SHIFT;
 
-/// A part of a shift, where it is within the limits.
+/// A part of a shift, if it is within the limits.
 pub fn part(text: &[u8]) -> Option<i32>
     ensures value { result ≡ part_of text.now }
     ensures small { IfSome result IsSmallPart }

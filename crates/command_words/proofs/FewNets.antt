@@ -36,7 +36,7 @@ count_parsed word n r h p =
     let s = spells word n h in let small = s.small in
     parse-decimal 32 n word r (omega (arith, small)) (omega (arith, small)) s.text p
 
--- where the value of its digits is no count, the argument spells none
+-- if the value of its digits is no count, the argument spells none
 pub no_count : (word : Text) → (is_count word (digits_value 10 word) ≡ true → ⊥) → None ≡ count_of word
 no_count word h = search (arith, cond-false, false_from_ne_true)
 

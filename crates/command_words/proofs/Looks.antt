@@ -1,4 +1,4 @@
--- How clap looks at a word: where it is cut, and which kind it is.
+-- How clap looks at a word: if it is cut, and which kind it is.
 use Rattle.std.proofs.Common.{◌≡◌, ◌∙◌, refl, sym, ap, ℕ, Bool, [], ◌∷◌, ◌++◌, Option, Some, None, true, false, cond, ◌==◌, ◌||◌, ◌&&◌, arith}
 use Rattle.std.proofs.Common.{true≢false, codes, option_map, subst, not}
 use Rattle.std.proofs.{lemmas.Grind.common_steps, lemmas.Bool.Decides.same_from_decides, lemmas.Bool.Decides.Decides-like}
@@ -57,7 +57,7 @@ before_whole (x ∷ xs) e = before_cons x xs ∙ go (before_whole xs) (x == 61) 
         → cond q [] (x ∷ before_first is_equals xs) ≡ x ∷ xs
     go k q l = search arith
 
--- the value after `=`, where the name is this one
+-- the value after `=`, if the name is this one
 abbrev pub value_after : Text → Text → Text → Option Text
 value_after name before rest = cond (bytes_eq name before) (Some rest) None
 

@@ -67,7 +67,7 @@ trailing Full said waiting (word ∷ words) rows pending s g =
     subst (λ (o : Option Said). IsMeaning (then words o) (walk_at waiting 3 true rows pending) (word ∷ words)) (sym (said_full said word s))
     (means_none _ word words (some_kind kind.UnknownArgument [] _ refl))
 
--- One argument, where all later arguments are read alike.
+-- One argument, if all later arguments are read alike.
 
 -- all arguments are text
 abbrev pub AreUtf8 : List Text → Type 0
@@ -81,7 +81,7 @@ IsOption Name = Unit {0}
 IsOption Cell = Unit {0}
 IsOption _ = ⊥
 
--- and is one, where it is given
+-- and is one, if it is given
 abbrev HasOption : Option Place → Type 0
 HasOption None = Unit {0}
 HasOption (Some p) = IsOption p
@@ -95,13 +95,13 @@ named_option name p e = subst HasOption e (go (bytes_eq (codes "archive") name) 
 pub stands_option : (stage : Stage) (said : Said) (p : Place) (v : Text) → IsOption p → IsStageOf stage said → IsStageOf stage (put p v said)
 stands_option stage said p v h k = search arith
 
--- the walk stands where this is said
+-- the walk stands if this is said
 pub record IsWaiting (said : Said) (p : Place) (rows : List Row) (pending : Pending) : Type 0 where
   pub shows : IsShown said rows
   pub empty : pending ≡ Some (id_of p, [])
   pub is_option : IsOption p
 
--- the walk stands where this is said, and this option waits
+-- the walk stands if this is said, and this option waits
 abbrev pub IsReady : Stage → Said → Option Place → List Row → Pending → Type 0
 IsReady stage said None rows pending = IsStageOf stage said × IsSound said rows pending
 IsReady stage said (Some p) rows pending = IsStageOf stage said × IsWaiting said p rows pending
@@ -246,7 +246,7 @@ module _ (said : Said) (word : Text) (words : List Text) (later : AreReadAlike w
       (read_as said None word words None ed (plain_step said word None eo ep (said_full said word s)))
       (means_none _ word words (some_kind kind.UnknownArgument [] _ (plain_turn 3 word rows pending ed el es)))
 
--- an argument where no value is awaited
+-- an argument if no value is awaited
 idle_read : (stage : Stage) (said : Said) (word : Text) (words : List Text) (rows : List Row) (pending : Pending) → AreReadAlike words → Look word
     → IsStageOf stage said → IsSound said rows pending → IsMeaningAt (read said None (word ∷ words)) stage None rows pending (word ∷ words)
 idle_read stage said word words rows pending later (dashes ed) s g = as_read _ (read_positional said words) stage None rows pending (word ∷ words)
@@ -268,7 +268,7 @@ value_step said p word b e = ap (λ (b : Bool). cond b (option_map without_wait 
 no_value : (p : Place) (rows : List Row) → end_fault rows (Some (id_of p, [])) ≡ [] → ⊥
 no_value p rows e = some_kind kind.InvalidValue [] _ (pending_fault p [] rows ∙ use_none p rows) e
 
--- an argument where a value is awaited
+-- an argument if a value is awaited
 value_read : (stage : Stage) (said : Said) (p : Place) (word : Text) (words : List Text) (rows : List Row) → AreReadAlike words → AreUtf8 words → Look word
     → IsStageOf stage said → IsWaiting said p rows (Some (id_of p, []))
     → IsMeaningAt (read said (Some p) (word ∷ words)) stage (Some p) rows (Some (id_of p, [])) (word ∷ words)

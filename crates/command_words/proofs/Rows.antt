@@ -89,7 +89,7 @@ used_as_values p v rows = grind arith
 pub used_once : (p : Place) (v : Text) (rows : List Row) → has_row (id_of p) rows ≡ false → used (rule_at p) (v ∷ []) rows ≡ rows ++ row p v ∷ []
 used_once p v rows e = simp (at_missing, append_nil, used_as_values)
 
--- the names of rows, where one is added
+-- the names of rows, if one is added
 pub has_more : (id : Text) (rows : List Row) (r : Row) → has_row id (rows ++ r ∷ []) ≡ (has_row id rows || bytes_eq r.id id)
 has_more id [] r = go (bytes_eq r.id id)
   where
@@ -106,7 +106,7 @@ has_more id (x ∷ xs) r = go (has_more id xs r) (bytes_eq x.id id)
 abbrev value_in : Option Row → Option Text
 value_in = option_and_then (λ r. slice_get r.values 0)
 
--- the value of an id where a row is added
+-- the value of an id if a row is added
 pub first_more : (id : Text) (rows : List Row) (r : Row) → first_of id (rows ++ r ∷ []) ≡ cond (has_row id rows) (first_of id rows) (first_of id (r ∷ []))
 first_more id [] r = refl
 first_more id (x ∷ xs) r = go (first_more id xs r) (bytes_eq x.id id)
@@ -181,7 +181,7 @@ Pending = Option (Text × List Text)
 abbrev pub state : List Row → Pending → Held
 state rows pending = record { rows = rows; pending = pending; skip = 0 }
 
--- why clap refuses what is pending, where it is used
+-- why clap refuses what is pending, if it is used
 abbrev pub end_fault : List Row → Pending → Kinds
 end_fault rows pending = settle_fault rules_list false (state rows pending)
 

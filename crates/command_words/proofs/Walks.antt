@@ -25,7 +25,7 @@ pub record AreTaken (w : Walk) (words : List Text) : Type 0 where
   pub turns : fault_from w words ≡ []
   pub end : settle_fault rules_list false (held_after w words) ≡ []
 
--- the arguments from here on make up what is said: where nothing is said clap refuses them, and else it takes them and shows it
+-- the arguments from here on make up what is said: if nothing is said clap refuses them, and else it takes them and shows it
 abbrev pub IsMeaning : Option Said → Walk → List Text → Type 0
 IsMeaning None w words = AreTaken w words → ⊥
 IsMeaning (Some said) w words = AreTaken w words × IsShown said (settled_rows rules_list (held_after w words).pending (held_after w words).rows)
@@ -129,7 +129,7 @@ pub record IsFilled (from to : Stage) (p : Place) (said : Said) (word : Text) : 
       → to_positional rules_list (arg_by_index rules_list (place_of from)) word (walk_at waiting (place_of from) t rows pending) (state rows pending)
       ≡ walk_at idle (place_of to) t (end_rows rows pending) (Some (id_of p, word ∷ []))
 
--- a walk that holds h, where no value is awaited
+-- a walk that holds h, if no value is awaited
 abbrev walk_with : ℕ → Bool → Held → Walk
 walk_with position t h = record { held = h; waiting = idle; position = position; is_trailing = t; stopped = None }
 
@@ -169,7 +169,7 @@ filled_next said word s = record {
 pub some_kind : (k : ErrorKind) (ks kinds : Kinds) → kinds ≡ k ∷ ks → kinds ≡ [] → ⊥
 some_kind k ks kinds e f = cc
 
--- a positional argument is refused where what is pending is
+-- a positional argument is refused if what is pending is
 pub turn_bad : (stage : Stage) (rows : List Row) (pending : Pending) → (end_fault rows pending ≡ [] → ⊥)
     → step_fault top (place_of stage) (state rows pending) value ≡ [] → ⊥
 turn_bad First rows pending bad e = bad (sym (positional_turn Command rows pending) ∙ e)

@@ -19,13 +19,13 @@ pub data Task : Type 0 where
   Place : Text → Task
   -- to report what its key is
   Key : Text → Task
-  -- to report which nets it is of the archive, where one is named
+  -- to report which nets it is of the archive, if one is named
   Identify : Text → Option Text → Task
   -- to report what its components are
   Components : Text → Task
   -- to report what its symmetries are
   Symmetry : Text → Task
-  -- to add the nets of a file to the archive where one is named, the first under this name
+  -- to add the nets of a file to the archive if one is named, the first under this name
   Add : Text → Option Text → Option Text → Task
   -- to find the nets that stand in an archive more than once
   Duplicates : Text → Task
@@ -116,7 +116,7 @@ has_empty_word said =
     (if is_empty_word said.archive then true else
     (if is_empty_word said.name then true else is_empty_word said.cell)))
 
--- the file is the second positional argument, and `-`, the standard input, where that is absent
+-- the file is the second positional argument, and `-`, the standard input, if that is absent
 abbrev pub file_of : Said → Text
 file_of said = unwrap_or said.second (codes "-")
 
@@ -125,17 +125,17 @@ abbrev pub are_apart : Text → Option Text → Bool
 are_apart file None = true
 are_apart file (Some archive) = if bytes_eq file (codes "-") then not (bytes_eq archive (codes "-")) else true
 
--- a file is read, and the archive where one is named, and no name is given
+-- a file is read, and the archive if one is named, and no name is given
 abbrev pub identify_in : Said → Option Task
 identify_in said =
     if is_some said.name then None else
     (if are_apart (file_of said) said.archive then Some (Identify (file_of said) said.archive) else None)
 
--- a file is read, and the archive where one is named
+-- a file is read, and the archive if one is named
 abbrev pub add_in : Said → Option Task
 add_in said = if are_apart (file_of said) said.archive then Some (Add (file_of said) said.archive said.name) else None
 
--- the archive, where nothing else is said
+-- the archive, if nothing else is said
 abbrev pub sole_archive : Said → Option Text
 sole_archive said = if is_some said.second then None else (if is_some said.name then None else said.archive)
 
@@ -160,7 +160,7 @@ is_count word n = bytes_eq word (decimal n) && (nat_lt 0 n && nat_lt n (most_net
 abbrev pub count_of : Text → Option ℕ
 count_of word = if is_count word (digits_value 10 word) then Some (digits_value 10 word) else None
 
--- the number, where nothing else is said
+-- the number, if nothing else is said
 abbrev pub sole_count : Said → Option ℕ
 sole_count said = if is_some said.archive then None else (if is_some said.name then None else option_and_then count_of said.second)
 
@@ -197,16 +197,16 @@ task_with verb.Cover said = cover_in said
 abbrev pub task_for : Verb → Said → Option Task
 task_for v said = if may_give_cell v said.cell then task_with v said else None
 
--- the task of the first positional argument, where that names a command
+-- the task of the first positional argument, if that names a command
 abbrev pub task_named : Option Text → Said → Option Task
 task_named None said = None
 task_named (Some word) said = option_and_then (λ v. task_for v said) (verb_named word)
 
--- the task that is said, where no argument of it is empty
+-- the task that is said, if no argument of it is empty
 abbrev pub task_in : Said → Option Task
 task_in said = if has_empty_word said then None else task_named said.command said
 
--- the task that the arguments ask for, where they have the form
+-- the task that the arguments ask for, if they have the form
 abbrev pub task_of : List Text → Option Task
 task_of words = option_and_then task_in (said_by words)
 

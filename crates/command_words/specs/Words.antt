@@ -53,7 +53,7 @@ put Cell word said = record said { cell = Some word }
 abbrev pub fill : Place → Text → Said → Option Said
 fill place word said = if is_some (at said place) then None else Some (put place word said)
 
--- a positional argument is the command, or the second where there is a command
+-- a positional argument is the command, or the second if there is a command
 abbrev pub fill_next : Text → Said → Option Said
 fill_next word said = if is_some said.command then fill Second word said else fill Command word said
 
@@ -79,7 +79,7 @@ option_with_value None (Some value) cell = Some (Name, Some value)
 option_with_value None None (Some value) = Some (Cell, Some value)
 option_with_value None None None = None
 
--- the option that an argument spells, and its value where that stands after `=`
+-- the option that an argument spells, and its value if that stands after `=`
 abbrev pub option_word : Text → Option (Place × Option Text)
 option_word word = if bytes_eq word (codes "--archive") then Some (Archive, None) else
     (if bytes_eq word (codes "--name") then Some (Name, None) else
@@ -94,7 +94,7 @@ Reading = Said × Option Place
 abbrev pub without_wait : Said → Reading
 without_wait said = (said, None)
 
--- one argument before `--`, where no option waits: an option, or a positional argument
+-- one argument before `--`, if no option waits: an option, or a positional argument
 abbrev pub option_step : Said → Text → Option (Place × Option Text) → Option Reading
 option_step said word (Some (place, None)) = Some (said, Some place)
 option_step said word (Some (place, Some value)) = option_map without_wait (fill place value said)
@@ -110,13 +110,13 @@ abbrev pub read_positional : Said → List Text → Option Said
 read_positional said [] = Some said
 read_positional said (word ∷ words) = option_and_then (λ s. read_positional s words) (fill_next word said)
 
--- what the arguments say after what was said, where each has its place
+-- what the arguments say after what was said, if each has its place
 abbrev pub read : Said → Option Place → List Text → Option Said
 read said wanted [] = if is_some wanted then None else Some said
 read said wanted (word ∷ words) =
     if bytes_eq word (codes "--") then (if is_some wanted then None else read_positional said words)
     else option_and_then (λ r. read r.0 r.1 words) (step said wanted word)
 
--- what the arguments say, where each has its place
+-- what the arguments say, if each has its place
 abbrev pub said_by : List Text → Option Said
 said_by words = read nothing None words

@@ -42,7 +42,7 @@ fn refuse(error: Error) -> Result<(), NoMemory>
     }
 }
 
-/// What the arguments say, where each has its place.
+/// What the arguments say, if each has its place.
 pub(crate) fn read_words<'a>(
     alloc: Global,
     words: &'a [String],

@@ -231,7 +231,7 @@ fn has_empty_word(said: &Said<'_>) -> bool
         || is_empty_word(said.cell)
 }
 
-// The file is the second positional argument, and standard input where that is absent.
+// The file is the second positional argument, and standard input if that is absent.
 fn file_of<'a>(said: &Said<'a>) -> &'a str
     ensures { result.now ≡ file_of (said_view said.now) }
 {
@@ -280,7 +280,7 @@ fn add_in<'a>(said: &Said<'a>) -> Option<Task<'a>>
     }
 }
 
-// The archive, where nothing else is said.
+// The archive, if nothing else is said.
 fn sole_archive<'a>(said: &Said<'a>) -> Option<&'a str>
     ensures { option_copied result ≡ sole_archive (said_view said.now) }
 {
@@ -290,7 +290,7 @@ fn sole_archive<'a>(said: &Said<'a>) -> Option<&'a str>
     }
 }
 
-// A file, and the archive, where one is named.
+// A file, and the archive, if one is named.
 fn union_with<'a>(file: &'a str, archive: Option<&'a str>) -> Option<Task<'a>>
     ensures { option_map task_view result ≡ union_with file.now (option_copied archive.entry) }
 {
@@ -311,7 +311,7 @@ fn union_in<'a>(said: &Said<'a>) -> Option<Task<'a>>
     union_with(file_of(said), said.archive)
 }
 
-// The number, where nothing else is said.
+// The number, if nothing else is said.
 fn sole_count(said: &Said<'_>) -> Option<u32>
     ensures { result ≡ sole_count (said_view said.now) }
 {
@@ -321,7 +321,7 @@ fn sole_count(said: &Said<'_>) -> Option<u32>
     }
 }
 
-// The file, where no archive and no name is given.
+// The file, if no archive and no name is given.
 fn sole_file<'a>(said: &Said<'a>) -> Option<&'a str>
     ensures { option_copied result ≡ sole_file (said_view said.now) }
 {
@@ -332,7 +332,7 @@ fn sole_file<'a>(said: &Said<'a>) -> Option<&'a str>
     }
 }
 
-// The cell that an argument spells, where it is there.
+// The cell that an argument spells, if it is there.
 fn cell_in(alloc: Global, word: Option<&str>) -> Result<Option<Cell>, NoMemory>
     ensures { IfOk result (λ cell. cell ≡ option_and_then cell_of (option_copied word.entry)) }
 {
@@ -422,7 +422,7 @@ fn task_for<'a>(alloc: Global, verb: Verb, said: &Said<'a>) -> Result<Option<Tas
     }
 }
 
-// The task that is said, where no argument of it is empty.
+// The task that is said, if no argument of it is empty.
 fn task_in<'a>(alloc: Global, said: &Said<'a>) -> Result<Option<Task<'a>>, NoMemory>
     ensures { IfOk result (λ task. option_map task_view task ≡ task_in (said_view said.now)) }
 {
@@ -439,7 +439,7 @@ fn task_in<'a>(alloc: Global, said: &Said<'a>) -> Result<Option<Task<'a>>, NoMem
 }
 
 /// The task that the arguments ask for. `Ok(None)` comes if and only if they have no form, and `Err`
-/// only where memory is refused.
+/// only if memory is refused.
 pub fn task_of<'a>(alloc: Global, words: &'a [String]) -> Result<Option<Task<'a>>, NoMemory>
     ensures task { IfOk result (λ task.
         option_map task_view task ≡ task_of (texts_of words.entry.now)) }

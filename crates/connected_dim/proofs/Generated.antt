@@ -88,7 +88,7 @@ image_all : {A B : Type 0} (L : B → Type 0) (f : A → B) (xs : List A) → Al
 image_all L f [] h = tt
 image_all L f (x ∷ xs) h = (h.0, image_all L f xs h.1)
 
--- the walk that was found, where one was
+-- the walk that was found, if one was
 pub walk_is : (o : Option Vector) → IsSome o → o ≡ Some (shift_of o)
 walk_is o k = search arith
 
@@ -149,7 +149,7 @@ module _ (G : Graph) (g : IsGraph G) (a : ℕ) (found : List (Option Vector)) (h
       closed_generated G g a (shift_at found) (tells low) L l (λ e i w. of_edge L gens e i (all_found G g a found h low e.from (w.shift, w.walk)))
       (with_itself G a (start_in low))
 
--- Where a walk was found to each vertex.
+-- If a walk was found to each vertex.
 
 module _ (G : Graph) (g : IsGraph G) (found : List (Option Vector)) (h : AreWalks G 1 found) (all : All IsSome found) where
   -- each vertex has a walk
@@ -337,14 +337,14 @@ closed_by_volume G a found m S g q h s l = record {
   into = λ v c. closed_in G g a found h (Members G.dimension S) (members_group G.dimension S) (added_members G.dimension m (generators G found) S l) q.0 v c;
 }
 
--- Where all pivots are 1, the net is connected.
+-- If all pivots are 1, the net is connected.
 
 -- each vector is a closed walk then, and the net is connected
 pub whole_connected : (G : Graph) (found : List (Option Vector)) (S : Stairs) → IsGraph G → AreWalks G 1 found → All IsSome found → AreClosedWalks G 1 S
     → IsWhole S → IsConnected G
 whole_connected G found S g h all l w = connected_by_tree G (shift_at found) (is_tree G g found h all) (λ v d. l.out v (all_members S w v, d))
 
--- the closed walks, where the dimension and the vectors are those of the graph
+-- the closed walks, if the dimension and the vectors are those of the graph
 pub closed_of : (G : Graph) (found : List (Option Vector)) (d : ℕ) (vs : List Vector) (m : ℤ) (S : Stairs) → IsGraph G → AreWalks G 1 found → G.dimension ≡ d
     → vs ≡ generators G found
     → IsVolume d vs m → IsLatticeOf d m vs S → AreClosedWalks G 1 S

@@ -163,11 +163,11 @@ same_abs z h = ap unsigned_abs (to_z-of_z w128 z (fits_from_bound z most_normal 
 pub ends_by_two : (v : Vector) (k : ℕ) → 2 ≤ k → EndsBy k v
 ends_by_two v k p q r = search arith
 
--- by the second, where z is 0
+-- by the second, if z is 0
 pub ends_by_one : (v : Vector) (k : ℕ) → v.z ≡ pos 0 → 1 ≤ k → EndsBy k v
 ends_by_one v k p q r s = search arith
 
--- by the first, where y is 0 too
+-- by the first, if y is 0 too
 pub ends_by_zero : (v : Vector) (k : ℕ) → v.y ≡ pos 0 → v.z ≡ pos 0 → EndsBy k v
 ends_by_zero v k h p q r = search arith
 
@@ -181,7 +181,7 @@ axis = vector (pos 1) (pos 0) (pos 0)
 on_axis : (x y z : ℤ) → x ≡ pos 0 → pos 1 *ℤ x +ℤ pos 0 *ℤ y +ℤ pos 0 *ℤ z ≡ pos 0
 on_axis x y z e = simp ring (omega (arith, linear, e))
 
--- where no vector has a first part
+-- if no vector has a first part
 pub axis_normal : (d : ℕ) (vs : List Vector) → All (λ v. v.x ≡ pos 0) vs → IsFlatNormal d vs axis
 axis_normal d vs h = grind (arith, on_axis, ends_by_zero, unit)
 
@@ -204,7 +204,7 @@ module _ (v c : Vector) (some : v ≢ zero_vector) (r : IsReduction v c) where
       (sym (scaled r.k c.x c.y c.z v.x v.y v.z w.x w.y w.z (ap (λ (t : Vector). t.x) r.multiple) (ap (λ (t : Vector). t.y) r.multiple)
       (ap (λ (t : Vector). t.z) r.multiple)) ∙ e) factor
 
-  -- where v has no part there, c has none
+  -- if v has no part there, c has none
   reduced_y : v.y ≡ pos 0 → c.y ≡ pos 0
   reduced_y e = other_factor_zero r.k c.y (sym (ap (λ (t : Vector). t.y) r.multiple) ∙ e) factor
 
@@ -222,7 +222,7 @@ axis_only x y z a b c hy hz e =
 parallel : (a b w1 w2 w3 : ℤ) → a *ℤ w2 -ℤ b *ℤ w1 ≡ pos 0 → b *ℤ w1 +ℤ neg_ℤ a *ℤ w2 +ℤ pos 0 *ℤ w3 ≡ pos 0
 parallel a b w1 w2 w3 e = simp ring (omega (arith, linear, e))
 
--- where all are on the line of one with a first part
+-- if all are on the line of one with a first part
 pub line_normal : (d : ℕ) (vs : List Vector) (a c : Vector) → Contains vs a → a.x ≢ pos 0 → All (λ v. cross a v ≡ zero_vector) vs
     → IsReduction (vector a.y (neg_ℤ a.x) (pos 0)) c → IsFlatNormal d vs c
 line_normal d vs a c i some all r = record {
@@ -255,7 +255,7 @@ line_normal d vs a c i some all r = record {
 flat_product : (x y z a1 a2 a3 : ℤ) → z ≡ pos 0 → x *ℤ a1 +ℤ y *ℤ a2 +ℤ z *ℤ a3 ≡ pos 0 → x *ℤ a1 +ℤ y *ℤ a2 ≡ pos 0
 flat_product x y z a1 a2 a3 hz e = let r = ap (λ t. t *ℤ a3) hz in omega (arith, linear, e, simp ring at r)
 
--- where it is orthogonal to two vectors, its first part times the third part of their cross product is 0
+-- if it is orthogonal to two vectors, its first part times the third part of their cross product is 0
 first_times : (x y a1 a2 b1 b2 : ℤ) → x *ℤ a1 +ℤ y *ℤ a2 ≡ pos 0 → x *ℤ b1 +ℤ y *ℤ b2 ≡ pos 0 → x *ℤ (a1 *ℤ b2 -ℤ a2 *ℤ b1) ≡ pos 0
 first_times x y a1 a2 b1 b2 e f = let p = ap (λ t. t *ℤ b2) e in let q = ap (λ t. t *ℤ a2) f in
     simp ring (omega (arith, linear, simp ring at p, simp ring at q))
@@ -275,7 +275,7 @@ no_first a1 a3 b1 b3 e f =
 no_first_too : (a1 a2 b1 b2 : ℤ) → a1 ≡ pos 0 → b1 ≡ pos 0 → a1 *ℤ b2 -ℤ a2 *ℤ b1 ≡ pos 0
 no_first_too a1 a2 b1 b2 e f = let h = no_first a1 a2 b1 b2 e f in omega (arith, linear, h)
 
--- where all are in the plane of two
+-- if all are in the plane of two
 pub plane_normal : (d : ℕ) (vs : List Vector) (a b c : Vector) → d ≢ 2 → Contains vs a → Contains vs b → cross a b ≢ zero_vector
     → All (λ v. dot (cross a b) v ≡ pos 0) vs
     → IsReduction (cross a b) c → IsFlatNormal d vs c
@@ -364,7 +364,7 @@ flat_part_too a1 a3 b1 b3 e f =
     let p = ap (λ t. a1 *ℤ t) f in let q = ap (λ t. t *ℤ b1) e in
     omega (arith, linear, simp ring at p, simp ring at q)
 
--- so where it is not 0 that part is not
+-- so if it is not 0 that part is not
 pub flat_cross : (a b : Vector) → a.z ≡ pos 0 → b.z ≡ pos 0 → cross a b ≢ zero_vector → (cross a b).z ≢ pos 0
 flat_cross a b e f some z = some (vector_equal (flat_part a.y a.z b.y b.z e f) (flat_part_too a.x a.z b.x b.z e f) z)
 

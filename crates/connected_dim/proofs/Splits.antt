@@ -36,7 +36,7 @@ same_colours : (q c1 c2 c3 t1 t2 t3 w1 w2 w3 x1 x2 x3 h g k l : ℤ)
     → h +ℤ (c1 *ℤ w1 +ℤ c2 *ℤ w2 +ℤ c3 *ℤ w3) ≡ (g +ℤ (c1 *ℤ x1 +ℤ c2 *ℤ x2 +ℤ c3 *ℤ x3)) +ℤ q *ℤ (k -ℤ l)
 same_colours q c1 c2 c3 t1 t2 t3 w1 w2 w3 x1 x2 x3 h g k l e f = simp ring (omega (arith, linear, e, simp ring at f))
 
--- where each vertex is found and has the entry -c·T modulo q, joined vertices have one colour
+-- if each vertex is found and has the entry -c·T modulo q, joined vertices have one colour
 joined_alike : (G : Graph) (S : Split) → ((u : ℕ) → IsQuotientVertex G u → IsFound G 1 u)
     → ((u : ℕ) (T : Vector) → IsQuotientVertex G u → WalkShift G 1 u T → AreAlike S.q (entry S.h u) (neg_ℤ (dot S.c T)))
     → (w x : Vertex) → IsVertex G w → IsVertex G x → AreJoined G w x → AreAlike S.q (colour S w) (colour S x)
@@ -48,7 +48,7 @@ joined_alike G S found h w x i j joined =
           (entry S.h x.over) a.0 b.0 a.1 b.1,
     )
 
--- where (1, 0) and (1, v) have one colour, c·v is 0 modulo q
+-- if (1, 0) and (1, v) have one colour, c·v is 0 modulo q
 shift_alike : (q c1 c2 c3 v1 v2 v3 h k : ℤ) → h +ℤ (c1 *ℤ pos 0 +ℤ c2 *ℤ pos 0 +ℤ c3 *ℤ pos 0) ≡ (h +ℤ (c1 *ℤ v1 +ℤ c2 *ℤ v2 +ℤ c3 *ℤ v3)) +ℤ q *ℤ k
     → c1 *ℤ v1 +ℤ c2 *ℤ v2 +ℤ c3 *ℤ v3 ≡ pos 0 +ℤ q *ℤ neg_ℤ k
 shift_alike q c1 c2 c3 v1 v2 v3 h k e = simp ring (omega (arith, linear, simp ring at e))

@@ -222,7 +222,7 @@ searched_more {G} {start} {found} {order} {found'} {order'} {i} h l e = record {
   ];
 }
 
--- where none is found, none is at any place
+-- if none is found, none is at any place
 pub none_at : (n k : ℕ) → get_or (none_found n) k None ≡ None
 none_at zero k = refl
 none_at (suc n) zero = refl
@@ -265,7 +265,7 @@ search_start G start found order q e f together =
 pub some_value : (o : Option Vector) → IsSome o → (T : Vector) × (o ≡ Some T)
 some_value o k = search arith
 
--- where all are followed, the walks are all there are
+-- if all are followed, the walks are all there are
 pub walks_found : {G : Graph} {start : ℕ} {found : List (Option Vector)} {order : List ℕ} → IsSearchedTo G start found order (length order)
     → G.vertices ≤ most_vertices → AreWalks G start found
 walks_found {G} {start} {found} {order} h small = record {

@@ -23,7 +23,7 @@ pub record IsBegun (a : ℕ) (found : List (Option Vector)) (order : List ℕ) :
 pub record IsSettledTo (G : Graph) (a : ℕ) (found : List (Option Vector)) (order : List ℕ) (i : ℕ) : Type 0 where
   pub which : ((i ≡ 0) × IsBegun a found order) ⊎ ((1 ≤ i) × IsPathSearch G a found order (i - 1) [])
 
--- where those before a place of vertex u were gone on from, u is too
+-- if those before a place of vertex u were gone on from, u is too
 abbrev pub SettlesNext : Graph → ℕ → List (Option Vector) → List ℕ → ℕ → List (Option Vector) → List ℕ → Type 0
 SettlesNext G a found order u found' order' =
     (i : ℕ) → i < length order → slice_index_or order i 0 ≡ u → IsSettledTo G a found order i → IsSettledTo G a found' order' (i + 1)

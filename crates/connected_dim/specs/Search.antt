@@ -10,7 +10,7 @@ use Rattle.periodic_net.specs.Limits.{most_walk, most_shift}
 abbrev pub walk_to : List (Option Vector) → ℕ → Option Vector
 walk_to found u = slice_index_or found (u - 1) None
 
--- the shift of a walk, and 0 where none was found
+-- the shift of a walk, and 0 if none was found
 abbrev pub shift_of : Option Vector → Vector
 shift_of None = zero_vector
 shift_of (Some T) = T

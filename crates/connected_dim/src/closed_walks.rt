@@ -11,7 +11,7 @@ use quotient_graph::{Arc, Graph};
 use std::alloc::Global;
 use vecdim::{Shift, Vect};
 
-/// The shift of a walk, and 0 where none was found.
+/// The shift of a walk, and 0 if none was found.
 pub fn shift_of<const D: usize>(walk: &Option<Shift<D>>) -> Shift<D>
     ensures { result ≡ shift_of walk.now }
 {

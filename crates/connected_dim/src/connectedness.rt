@@ -51,7 +51,7 @@ fn verdict<const D: usize>(alloc: Global, g: &Graph<D>) -> Result<Verdict, NoMem
     verdict_by_walks(alloc, g, &found)
 }
 
-/// The graph where its net is connected, and otherwise a colouring that shows that it is not, with
+/// The graph if its net is connected, and otherwise a colouring that shows that it is not, with
 /// the graph.
 pub fn connect<const D: usize>(alloc: Global, g: Graph<D>) -> Result<Connected<D>, Unconnected<D>>
     ensures same { IfOk result (λ c. c ≡ g.entry) }

@@ -114,7 +114,7 @@ fn rows_in<const D: usize>(s: &Staircase<D>) -> Rows
     }
 }
 
-// The third pivot where it is above 1; the others are 1.
+// The third pivot if it is above 1; the others are 1.
 fn last_dual(r: Rows) -> Option<Dual>
     requires reduced { IsReducedStair (stairs r.first_x r.first_y r.first_z r.second_y r.second_z
         r.third_z) }

@@ -61,7 +61,7 @@ fn first_off<const D: usize>(gs: &[Vect<D>], c: &Triple) -> Option<Vect<D>>
     )
 }
 
-// The normal where all vectors are 0, or on a line that has no first part.
+// The normal if all vectors are 0, or on a line that has no first part.
 fn axis() -> Triple
     ensures value { result ≡ vector (pos 1) (pos 0) (pos 0) }
     ensures within { IsWithin most_normal result }

@@ -99,7 +99,7 @@ fn search<const D: usize>(
     Ok(())
 }
 
-// The walks from a vertex, where nothing is found yet.
+// The walks from a vertex, if nothing is found yet.
 fn find_walks<const D: usize>(
     alloc: Global,
     g: &Graph<D>,

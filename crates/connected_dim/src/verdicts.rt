@@ -15,7 +15,7 @@ use quotient_graph::{Graph, Split};
 use std::alloc::Global;
 use vecdim::{Shift, Staircase, Vect};
 
-/// What is found of a net: that it is connected, or a colouring, where the closed walks have full
+/// What is found of a net: that it is connected, or a colouring, if the closed walks have full
 /// rank or not.
 #[derive(Drop)]
 pub enum Verdict {

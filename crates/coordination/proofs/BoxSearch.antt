@@ -370,6 +370,6 @@ module _ {P : Graph} {b : NetBox} {vertices : List Vertex} {first_marks : List B
           (let e = length-drop begin vertices in omega (arith, e)) s.searched;
     }
 
-    -- or where too many were found
+    -- or if too many were found
     pub searching_stops : (room : ℕ) → room < length s.next → IsFoundNext P b vertices begin room marks found
     searching_stops room l = search (arith, s, search_stops)

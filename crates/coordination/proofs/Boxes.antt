@@ -99,7 +99,7 @@ module _ (n : ℕ) (r : Extent) where
 pos_digits : (a n b : ℕ) → pos (a + n * b) ≡ pos a +ℤ pos n *ℤ pos b
 pos_digits a n b = cc
 
--- the number of a vertex whose class is o, at x, y and z, where n, sides and greatest parts are given
+-- the number of a vertex whose class is o, at x, y and z, if n, sides and greatest parts are given
 abbrev number : (n A B a b c o x y z : ℤ) → ℤ
 number n A B a b c o x y z = (o -ℤ pos 1) +ℤ n *ℤ ((x +ℤ a) +ℤ A *ℤ ((y +ℤ b) +ℤ B *ℤ (z +ℤ c)))
 

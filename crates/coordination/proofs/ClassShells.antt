@@ -104,7 +104,7 @@ all_classes c g h lists f = record {
 -- The classes of a placed net have one numbering.
 
 module _ (G : Graph) (p : Placement) where
-  -- where two numberings agree before u, the one is not below the other at u
+  -- if two numberings agree before u, the one is not below the other at u
   not_below : (f g : ℕ → ℕ) → IsClassNumbering G p f → IsClassNumbering G p g → (u : ℕ) → IsQuotientVertex G u
       → ((v : ℕ) → v < u → IsQuotientVertex G v → f v ≡ g v) → f u < g u → ⊥
   not_below f g n m u i agree l =

@@ -130,7 +130,7 @@ start_layers {X} Step s = record {
     by : (p : X) → IsIn (s ∷ []) p → s ≡ p
     by p h = search arith
 
--- Each shell can be listed, where equality is decided and what steps lead to can be listed.
+-- Each shell can be listed, if equality is decided and what steps lead to can be listed.
 
 -- exactly what steps lead to from each x
 pub record AreNeighbours {X : Type 0} (Step : X → X → Type 0) (neighbours : X → List X) : Type 0 where

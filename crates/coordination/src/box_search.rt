@@ -8,7 +8,7 @@ use crate::net_box::NetBox;
 use crate::spot::Spot;
 
 /// Finds the vertices that are reached from those of a shell, which were found last, and were not
-/// found before; where these are more than `room`, some of them, and more than `room`. The shell
+/// found before; if these are more than `room`, some of them, and more than `room`. The shell
 /// begins at this place.
 pub fn next_shell(
     net_box: &NetBox,

@@ -48,7 +48,7 @@ fn raise(far: &mut [u32], u: u32, least: i64)
     }
 }
 
-// From each vertex as far as along an edge and on from its end, where that is farther.
+// From each vertex as far as along an edge and on from its end, if that is farther.
 fn raise_all<const D: usize>(
     edges: &[PrimEdge<D>],
     longest: Extent,

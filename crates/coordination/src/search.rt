@@ -11,7 +11,7 @@ use indexmap::IndexSet;
 use quotient_graph::ClassGraph;
 use std::alloc::Global;
 
-/// The points that are reached from a shell and were not found before; where these are more
+/// The points that are reached from a shell and were not found before; if these are more
 /// than `room`, some of them, and more than `room`.
 pub fn next_shell<const D: usize>(
     alloc: Global,

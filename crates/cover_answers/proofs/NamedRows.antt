@@ -37,7 +37,7 @@ AreNumbers xs = (u : ℕ) → IsIn xs u → u < 2 ^ 64
 same_test : (s t : Bool) → (s ≡ true → t ≡ true) → (t ≡ true → s ≡ true) → s ≡ t
 same_test s t h k = search arith
 
--- numbers are the same where their names are
+-- numbers are the same if their names are
 test_name : (u v : ℕ) → u < 2 ^ 64 → v < 2 ^ 64 → bytes_eq (decimal u) (decimal v) ≡ (u == v)
 test_name u v h k = grind (arith, same_test, decimal_injective, bytes_eq-Decides)
 

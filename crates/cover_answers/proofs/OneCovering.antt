@@ -239,7 +239,7 @@ module _ (cell : CellView) where
   told_covered (Net raw) C x told c h = absurd h
   told_covered body C x told c h = absurd c
 
-  -- so where each block is covered none is reported otherwise
+  -- so if each block is covered none is reported otherwise
   all_covered : (n : ℕ) (bs : List BlockView) (Cs : List Graph) (xs : List Bool) (os : List Outcome) → AreCoversOf cell bs Cs → AreOutcomesFrom cell n bs xs os
       → all_of xs ≡ true
   all_covered n [] Cs [] os h k = refl

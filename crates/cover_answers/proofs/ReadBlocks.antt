@@ -49,7 +49,7 @@ spelled_ends : (t : Bool) (u v : ℕ) (row : FieldsView)
     × (((spelled t u v row.x row.y row.z).u ≡ v) ⊎ ((spelled t u v row.x row.y row.z).v ≡ v))
 spelled_ends t u v row = search arith
 
--- a list that has grown has the old places, and where it has a new one it is that of the new name
+-- a list that has grown has the old places, and if it has a new one it is that of the new name
 grown_places : (names : List (List ℕ)) (name : List ℕ) (k : ℕ) → 1 ≤ k → k ≤ length (with_new bytes_eq names name)
     → (k ≤ length names) ⊎ (vertex_number names name ≡ k)
 grown_places names name = grown_is bytes_eq bytes_eq-Decides (λ (l : List (List ℕ)). (k : ℕ) → 1 ≤ k → k ≤ length l
@@ -270,7 +270,7 @@ record IsOfRows (block : BlockView) (raw : RawView) : Type 0 where
   rows : List FieldsView
   is : raw ≡ net_of rows
 
--- where a block is a net, it is so
+-- if a block is a net, it is so
 abbrev IsFit : BlockView → Type 0
 IsFit block = (raw : RawView) → block.body ≡ Net raw → IsOfRows block raw
 

@@ -1,4 +1,4 @@
--- Where all blocks of a text are covered, the text of the covers is read as the nets that were given.
+-- If all blocks of a text are covered, the text of the covers is read as the nets that were given.
 use Rattle.std.proofs.Common.{◌≡◌, inl, inr, ℕ, ◌*◌, List, [], ◌∷◌, ◌++◌, refl, sym, ap, subst, ◌∙◌}
 use Rattle.std.proofs.lemmas.List.{Elements.All-from_recursion, Sorted.length_permutation}
 use Rattle.std.specs.List.{AllByRecursion, Contains}

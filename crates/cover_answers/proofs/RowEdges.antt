@@ -1,4 +1,4 @@
--- The edges of rows and their graph: each is between the vertices, none stands twice, and they are flat where the rows are.
+-- The edges of rows and their graph: each is between the vertices, none stands twice, and they are flat if the rows are.
 use Rattle.std.proofs.Common.{◌≡◌, ◌⊎◌, inl, inr, ℕ, length, refl, sym, ap, subst, ◌∙◌, arith, ◌≤◌, ◌==◌, ℤ, pos, Bool, true, List, [], ◌∷◌, map, ◌&&◌, not}
 use Rattle.std.proofs.Common.{false, cond, Option, None, Some}
 use Rattle.std.{proofs.lemmas.List.Elements.All-contains, proofs.lemmas.Slice.Eq.bytes_eq-Decides, proofs.lemmas.Bool.cases_Bool}
@@ -237,11 +237,11 @@ each_between (row ∷ rows) e i = by (each_between rows e)
               subst (IsBetween (length (vertices_of (row ∷ rows)))) q (record { first = s.0; second = s.1; spelling = edge_spelled u v row.x row.y row.z })
         ]
 
--- where the first row has four fields, no edge has a third part
+-- if the first row has four fields, no edge has a third part
 abbrev pub AreFlatRows : List FieldsView → Type 0
 AreFlatRows rows = (e : RawEdge) → IsIn (edges_of rows) e → first_size rows ≡ 4 → e.z ≡ pos 0
 
--- where there is an edge, there is a row
+-- if there is an edge, there is a row
 some_row : (rows : List FieldsView) (e : RawEdge) → IsIn (edges_of rows) e → has_rows rows ≡ true
 some_row rows e h = search arith
 
@@ -311,7 +311,7 @@ pub record IsFlatNet (raw : RawView) : Type 0 where
   pub is : raw ≡ net_of rows
   pub flat : AreFlatRows rows
 
--- where the body is a net, it is such a one
+-- if the body is a net, it is such a one
 abbrev pub IsFlatBody : BodyView → Type 0
 IsFlatBody (Net raw) = IsFlatNet raw
 IsFlatBody x = Unit {0}

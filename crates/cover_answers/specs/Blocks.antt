@@ -4,7 +4,7 @@ use Rattle.periodic_net.specs.Graph.{Graph, Arc}
 use Rattle.line_text.specs.Numbers.{list_text}
 use Rattle.graph_rows.specs.Rows.{edge_numbers}
 
--- the line that names a graph, where it has a name
+-- the line that names a graph, if it has a name
 abbrev pub name_line : Option (List ℕ) → List ℕ
 name_line None = []
 name_line (Some name) = codes "NAME \"" ++ name ++ codes "\"\n"

@@ -1,4 +1,4 @@
--- What is reported of each block where some block is not covered.
+-- What is reported of each block if some block is not covered.
 use Rattle.std.specs.Prelude.{◌≡◌, ◌≢◌, ◌⊎◌, ℕ, ◌+◌, Bool, true, false, List, [], ◌∷◌, length, option_copied}
 use Rattle.std.specs.List.{list_all}
 use Rattle.periodic_net.specs.Graph.{Graph}

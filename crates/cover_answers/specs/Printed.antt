@@ -4,7 +4,7 @@ use Rattle.periodic_net.specs.Graph.{Graph, Arc, IsGraph, IsQuotientVertex}
 use Rattle.periodic_net.specs.Limits.{IsSmall}
 use Rattle.cover_answers.specs.Blocks.{graph_text}
 
--- a graph, and the name of its block where it has one
+-- a graph, and the name of its block if it has one
 pub record NamedGraph : Type 0 where
   pub name : Option (List ℕ)
   pub graph : Graph

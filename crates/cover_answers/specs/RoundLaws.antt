@@ -6,7 +6,7 @@ use Rattle.net_report.specs.declared.status.Status.TheVariants.{Done}
 use Rattle.cover_answers.specs.Due.{IsCoveredAs}
 use Rattle.cover_answers.specs.Rounds.{AreReadAsCovers}
 
--- where the text of the covers is due to a cell and the blocks of a file, the blocks of that text are the nets that were
+-- if the text of the covers is due to a cell and the blocks of a file, the blocks of that text are the nets that were
 -- given, each on the cell
 abbrev pub CoversAreReadBack : Type 0
 CoversAreReadBack = (cell : CellView) (file text : List ℕ) → IsCoveredAs cell (blocks_of file) Done text

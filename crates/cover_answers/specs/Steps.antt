@@ -15,12 +15,12 @@ pub record IsCoverLast (cell : CellView) (name : Option (List ℕ)) (body : Body
   pub is_cover : IsCoverOf cell body cover
   pub text : new ≡ old ++ graph_text name cover
 
--- what is reported of what a block holds; where it is covered, its cover is put last
+-- what is reported of what a block holds; if it is covered, its cover is put last
 pub record IsBodyAnswered (cell : CellView) (name : Option (List ℕ)) (body : BodyView) (covered : Bool) (told : OutcomeBody) (old new : List ℕ) : Type 0 where
   pub body_told : IsBodyOf cell body covered told
   pub cover_last : covered ≡ true → IsCoverLast cell name body old new
 
--- the outcome of the block with this number; where it is covered, its cover is put last
+-- the outcome of the block with this number; if it is covered, its cover is put last
 pub record IsBlockAnswered (cell : CellView) (number : ℕ) (block : BlockView) (covered : Bool) (o : Outcome) (old new : List ℕ) : Type 0 where
   pub is_outcome : IsOutcomeOf cell number block covered o
   pub cover_last : covered ≡ true → IsCoverLast cell block.name block.body old new

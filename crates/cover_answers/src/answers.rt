@@ -12,7 +12,7 @@ use net_cover::Cell;
 use net_report::{Answer, Outcomes, Status, report};
 use std::alloc::Global;
 
-// The covers where each block is covered, and else the report.
+// The covers if each block is covered, and else the report.
 fn answer_of(
     alloc: Global,
     covers: Vec<u8>,
@@ -38,7 +38,7 @@ fn answer_of(
 }
 
 /// The covers of the graphs of all blocks on a cell, one after the other, or the report on the
-/// blocks where one of them is not covered. Each block is covered once.
+/// blocks if one of them is not covered. Each block is covered once.
 pub fn cover_blocks(alloc: Global, cell: &Cell, found: &[Block<'_>]) -> Result<Answer, NoMemory>
     requires graphs { All (λ block. IsReadBody block.body) found.now }
     requires few { length found.now ≤ most_blocks }

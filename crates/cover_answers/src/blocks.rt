@@ -71,7 +71,7 @@ fn push_any_edges(text: &mut Vec<u8>, g: &AnyGraph) -> Result<(), NoMemory>
     }
 }
 
-/// The block of a graph, under a name where it has one.
+/// The block of a graph, under a name if it has one.
 pub fn push_graph(text: &mut Vec<u8>, name: Option<&[u8]>, g: &AnyGraph) -> Result<(), NoMemory>
     ensures { OnOk result (text.new.items ≡
         text.old.items ++ graph_text (option_copied name.entry) (graph_view g.now)) }

@@ -35,7 +35,7 @@ fn covered_body<'a>(
     Ok(OutcomeBody::Lines(size, Items::from_vec(line)))
 }
 
-// What is reported of a graph that is not: the fault, where it is one.
+// What is reported of a graph that is not: the fault, if it is one.
 fn refused_body<'a>(
     alloc: Global,
     size: Size,

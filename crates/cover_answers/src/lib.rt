@@ -27,7 +27,7 @@ pub fn covers_may_be_printed()
     ensures theorem { CoversMayBePrinted }
 {}
 
-/// Where all blocks of a text are covered, the text of the covers is read as the nets that were
+/// If all blocks of a text are covered, the text of the covers is read as the nets that were
 /// given, each on the cell.
 #[tactic(auto, using(crate::proofs::Rounds::covers_are_read_back))]
 pub fn covers_are_read_back()

@@ -1,5 +1,5 @@
--- What the arcs of a vertex lead, as values modulo m. A vertex of a graph is at the mean of its neighbours just where its weights and its sum of shifts
--- say so. Where all vertices but vertex 1 are at the means of their neighbours, so is vertex 1: the two arcs of an edge lead opposite ways.
+-- What the arcs of a vertex lead, as values modulo m. A vertex of a graph is at the mean of its neighbours just if its weights and its sum of shifts
+-- say so. If all vertices but vertex 1 are at the means of their neighbours, so is vertex 1: the two arcs of an edge lead opposite ways.
 pub use Rattle.integers.proofs.lists.Members.{map_same}
 use Rattle.std.proofs.Common.{◌≡◌, ℕ, List, [], ◌∷◌, ap, sym, refl, ◌∙◌, arith, subst, cond, ◌+◌, ◌≤◌, Bool, false, ◌<◌, zero, suc}
 use Rattle.std.proofs.lemmas.Bool.{cond_both, cond-true, and_parts, and_from, leb-true, le-leb, cases_eq, ne_eqb, cond-false}
@@ -104,7 +104,7 @@ module _ (m : ℕ) where
         sym (over_plus (values m) gain (λ a. stand a.from) as') ∙ (λ i. sum_over (values m) (λ a. gain_plus a i) as')
         ∙ over_plus (values m) (λ a. stand a.to) step as'
 
-    -- a vertex is at its mean where the gains of its arcs add up to 0
+    -- a vertex is at its mean if the gains of its arcs add up to 0
     pub gains_of_mean : (G : Graph) (u : ℕ) → IsAtMean m G c p u → sum_over (values m) gain (arcs_from G u) ≡ whole_value m (pos 0)
     unfolding gain
     gains_of_mean G u e =
@@ -150,7 +150,7 @@ gains_stay G g c p u = map_same (arc_gain (kept G p) c) (arc_gain p c) (arcs_fro
         let to = kept_is G p a.to ends.to in
         λ i. ratio_minus (ratio_plus (to i) (whole (part c a.shift))) (from i)
 
--- and a vertex is at its mean by p where it is so by the kept values
+-- and a vertex is at its mean by p if it is so by the kept values
 pub mean_from_kept : (m : ℕ) (G : Graph) → IsGraph G → (c : ℕ) (p : ℕ → Ratio) (u : ℕ) → IsAtMean m G c (kept G p) u → IsAtMean m G c p u
 mean_from_kept m G g c p u h = record { balance = subst (λ xs. Same m (ratio_sum xs) (whole (pos 0))) (gains_stay G g c p u) h.balance }
 
@@ -219,7 +219,7 @@ module _ (m : ℕ) where
           ∙ over_same (values m) (λ a. stand m c p h (i + 1)) (λ a. stand m c p h a.from) (arcs_from G (i + 1))
           (λ a k. ap (stand m c p h) (sym (from_is_arc G (i + 1) a k).1))
 
-      -- where the mean equation holds, the gains of the arcs add up to 0
+      -- if the mean equation holds, the gains of the arcs add up to 0
       pub gains_of_weights : IsMean (values m) G.vertices weight (shifts c) (λ j. stand m c p h (j + 1)) i
           → sum_over (values m) (gain m c p h) (arcs_from G (i + 1)) ≡ whole_value m (pos 0)
       gains_of_weights e =
@@ -265,7 +265,7 @@ module _ (m : ℕ) (p : ℕ → Ratio) (h : (u : ℕ) → CanCancel m (pos (p u)
     both = ap (λ t. plus_value m t (class m (part u) (k u))) (sym (over_class m (arc_difference p) difference_cancels (arcs_from G u)))
         ∙ class_plus m (ratio_sum (map (arc_difference p) (arcs_from G u))) (part u) sum_cancels (k u) _
 
-    -- a vertex is balanced where its differences and its part add up to 0
+    -- a vertex is balanced if its differences and its part add up to 0
     pub of_balance : IsBalanced m G part p u → plus_value m (sum_over (values m) difference (arcs_from G u)) (class m (part u) (k u)) ≡ whole_value m (pos 0)
     of_balance e = both ∙ class_same m _ (whole (pos 0)) _ one_cancels e.balance ∙ sym (class_whole m (pos 0) one_cancels)
 
@@ -283,7 +283,7 @@ module _ (m : ℕ) (p : ℕ → Ratio) (h : (u : ℕ) → CanCancel m (pos (p u)
         ap (λ t. plus_value m t (b i)) (by_ends m G g (stand m 0 p h) i ∙ sym (differences_plus (arcs_from G (i + 1))))
         ∙ swap_last (values m) (sum_over (values m) difference (arcs_from G (i + 1))) (tails m G g 0 p h i) (b i)
 
-    -- where the mean equation by weights holds, the differences and the part add up to 0
+    -- if the mean equation by weights holds, the differences and the part add up to 0
     pub differences_of_weights : IsMean (values m) G.vertices (weight m G g) b places i
         → plus_value m (sum_over (values m) difference (arcs_from G (i + 1))) (b i) ≡ whole_value m (pos 0)
     differences_of_weights e = plus_value_cancel m _ (whole_value m (pos 0)) (tails m G g 0 p h i)
@@ -327,7 +327,7 @@ module _ (m c : ℕ) (p : ℕ → Ratio) (h : (u : ℕ) → CanCancel m (pos (p 
       sym (plus_value_assoc m (gain m c p h e) (gain m c p h (reverse_of e)) _) ∙ (λ i. plus_value m (opposite_gains e i) (all_gains es i))
       ∙ nought_plus (values m) (whole_value m (pos 0))
 
-  -- so where those of each other vertex do, those of vertex 1 do
+  -- so if those of each other vertex do, those of vertex 1 do
   pub first_gains : (G : Graph) → IsGraph G → ((j : ℕ) → 0 < j → j < G.vertices
       → sum_over (values m) (gain m c p h) (arcs_from G (j + 1)) ≡ whole_value m (pos 0))
       → sum_over (values m) (gain m c p h) (arcs_from G 1) ≡ whole_value m (pos 0)
@@ -339,7 +339,7 @@ module _ (m c : ℕ) (p : ℕ → Ratio) (h : (u : ℕ) → CanCancel m (pos (p 
       ∙ grouped (values m) G.vertices (λ (a : Arc). a.from) (gain m c p h) (arcs G) (starts_inside G g)
       ∙ all_gains G.edges
 
--- Where all vertices but vertex 1 are balanced, and the right-hand parts add up to 0, so is vertex 1.
+-- If all vertices but vertex 1 are balanced, and the right-hand parts add up to 0, so is vertex 1.
 
 -- the sum of values, as the value of the sum
 module _ (m : ℕ) (p : ℕ → Ratio) (k : (u : ℕ) → CanCancel m (pos (p u).den)) where

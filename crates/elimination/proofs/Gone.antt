@@ -9,7 +9,7 @@ use Rattle.elimination.specs.Listed.{Level, Entry, list_to, next_level, level_en
 use Rattle.elimination.specs.Gone.{AreBelow, AreGone, HasGone, IsGone, level_at, gone_entry, gone_entries, placed_entry, placed_entries}
 use Rattle.elimination.proofs.Loops.{get_pushed}
 
--- where i vertices are gone of those up to n, vertex m goes next
+-- if i vertices are gone of those up to n, vertex m goes next
 pub next_at : (n : ℕ) (l : Level) (i k m : ℕ) → k ≡ suc i → n - i ≡ m → level_at n l k ≡ next_level m (level_at n l i)
 next_at n l i k m e f = ap (level_at n l) e ∙ ap (λ t. next_level t (level_at n l i)) f
 

@@ -31,11 +31,11 @@ coprime_cancels m d g = by (bezout d m)
         let f : pos 1 ≡ b.s *ℤ pos d +ℤ b.t *ℤ pos m = ap pos (sym one) ∙ b.g_is in
         cancels_of (λ z h. (_, coprime_step (pos m) (pos d) z h.0 b.s b.t h.1 f))
 
--- where m is 0 a number other than 0 can be cancelled
+-- if m is 0 a number other than 0 can be cancelled
 pub not_zero_cancels : (z : ℤ) → z ≢ pos 0 → CanCancel 0 z
 not_zero_cancels z n = cancels_of (λ x h. (pos 0, cancel_factor z x (pos 0) n (h.1 ∙ simp ring refl)))
 
--- -z can be cancelled where z can
+-- -z can be cancelled if z can
 pub opposite_cancels : {m : ℕ} {z : ℤ} → CanCancel m z → CanCancel m (neg_ℤ z)
 opposite_cancels {m} {z} h = cancels_of (λ x d. cancel h x (neg_ℤ d.0, flip (pos m) z x d.0 d.1))
   where
@@ -55,7 +55,7 @@ inverse_cancels {m} {a} h = ⊎_elim
     ⊎_elim (λ (e : a.num ≡ pos (unsigned_abs a.num)). subst (CanCancel m) (sym e) c)
     (λ e. subst (CanCancel m) (sym e) (opposite_cancels c)) (signed a.num)) (cases_eq m 0)
 
--- where g·k can be cancelled modulo g·l, and g·l is not 0, g is 1
+-- if g·k can be cancelled modulo g·l, and g·l is not 0, g is 1
 common_is_one : (g k l : ℕ) → g * l ≢ 0 → CanCancel (g * l) (pos (g * k)) → g ≡ 1
 common_is_one g k l n h = by (cancel h (pos l) (pos k, exchange (pos g) (pos k) (pos l)))
   where
@@ -78,7 +78,7 @@ cancelled_is_coprime m n ne h = by (bezout n m)
         let one = common_is_one b.g b.k b.l (λ e. ne (b.b_is ∙ e)) c in
         subst (IsGcd n m) one (bezout_gcd n m b)
 
--- 0 cannot be cancelled where m is 0
+-- 0 cannot be cancelled if m is 0
 zero_stays : (z : ℤ) → CanCancel 0 z → z ≢ pos 0
 zero_stays z h e = let d = cancel h (pos 1) (pos 0, ap (λ t. t *ℤ pos 1) e) in positive_not_zero 1 (omega arith) (d.1 ∙ simp ring refl)
 
@@ -239,7 +239,7 @@ small_multiple m n l d = by (natural_multiple m n d.0 d.1)
     by (zero, e) = omega (arith, e)
     by (suc k, e) = absurd (omega (arith, e, l))
 
--- numbers below m are equal where m divides their difference
+-- numbers below m are equal if m divides their difference
 below_equal : (m a b : ℕ) → a < m → b < m → DividesInteger m (pos a -ℤ pos b) → a ≡ b
 below_equal m a b k l d = by (total a b)
   where

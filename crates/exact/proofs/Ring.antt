@@ -76,7 +76,7 @@ module _ (m : ℕ) where
   lifted_comm f keeps turned = Quotient.ind₂ by_value by_value (λ q r. value-set (lifted f keeps q r) (lifted f keeps r q))
       (λ a b. Quotient.sound by_value (turned a b))
 
-  -- and is associative where that one is
+  -- and is associative if that one is
   lifted_assoc : (f : Exact → Exact → Exact) (keeps : (a b a' b' : Exact) → same a a' → same b b' → same (f a b) (f a' b'))
       → ((a b c : Exact) → same (f (f a b) c) (f a (f b c)))
       → (x y z : Value) → lifted f keeps (lifted f keeps x y) z ≡ lifted f keeps x (lifted f keeps y z)

@@ -11,7 +11,7 @@ use Rattle.integers.specs.Divisors.{DividesInteger}
 use Rattle.exact.specs.Ratio.{Ratio, Same, ratio_plus, ratio_times, whole, IsDenominator, IsInLowestTerms, ratio}
 use Rattle.exact.specs.Values.{CanCancel}
 
--- it is where m divides its absolute value
+-- it is if m divides its absolute value
 whole_multiple : (m : ℕ) (z : ℤ) → m ∣ unsigned_abs z → DividesInteger m z
 whole_multiple m (pos n) d = let q = quotient_of m n d in (pos q.0, ap pos q.1)
 whole_multiple m (negsuc n) d = let q = quotient_of m (suc n) d in (neg_ℤ (pos q.0), ap (λ t. neg_ℤ (pos t)) q.1 ∙ opposite (pos m) (pos q.0))
@@ -23,14 +23,14 @@ whole_multiple m (negsuc n) d = let q = quotient_of m (suc n) d in (neg_ℤ (pos
 divides_whole : (m : ℕ) (z : ℤ) → DividesInteger m z → m ∣ unsigned_abs z
 divides_whole m z h = divides_multiple m (unsigned_abs z) (unsigned_abs h.0, ap unsigned_abs h.1 ∙ unsigned_abs-mul (pos m) h.0)
 
--- two values are the same where their difference is a multiple
+-- two values are the same if their difference is a multiple
 pub same_of : {m : ℕ} {a b : Ratio} → DividesInteger m (a.num *ℤ pos b.den -ℤ b.num *ℤ pos a.den) → Same m a b
 same_of {m} {a} {b} h = record { difference = divides_whole m (a.num *ℤ pos b.den -ℤ b.num *ℤ pos a.den) h }
 
 pub difference_multiple : {m : ℕ} {a b : Ratio} → Same m a b → DividesInteger m (a.num *ℤ pos b.den -ℤ b.num *ℤ pos a.den)
 difference_multiple {m} {a} {b} s = whole_multiple m (a.num *ℤ pos b.den -ℤ b.num *ℤ pos a.den) s.difference
 
--- z can be cancelled where each multiple z·x is of a multiple x
+-- z can be cancelled if each multiple z·x is of a multiple x
 pub cancels_of : {m : ℕ} {z : ℤ} → ((x : ℤ) → DividesInteger m (z *ℤ x) → DividesInteger m x) → CanCancel m z
 cancels_of {m} {z} f = record { cancels = λ x d. divides_whole m x (f x (whole_multiple m (z *ℤ x) d)) }
 
@@ -140,7 +140,7 @@ zero_not_one e = omega arith
 pub lowest_denominator : (r : Ratio) → IsInLowestTerms r → IsDenominator 0 r.den
 lowest_denominator r h = record { positive = h.positive; coprime = λ n. absurd (n refl) }
 
--- by Euclid's lemma b divides d where a/b = c/d and a/b is in lowest terms
+-- by Euclid's lemma b divides d if a/b = c/d and a/b is in lowest terms
 denominator_divides : (a b c d : ℕ) → IsGcd a b 1 → a * d ≡ c * b → b ∣ d
 denominator_divides a b c d h e =
     euclid b a d (IsGcd-swap a b 1 h) (divides_multiple b (a * d) (c, e ∙ mul_comm c b))
@@ -155,7 +155,7 @@ pub numerators_equal : (a b c d : ℕ) → 1 ≤ b → IsGcd a b 1 → IsGcd c d
 numerators_equal a b c d l h k e =
     eq_of_mul-eq-mul_left b l a c (mul_comm b a ∙ ap (λ t. a * t) (denominators_equal a b c d h k e) ∙ e ∙ mul_comm c b)
 
--- x = y where x - y is a multiple of 0
+-- x = y if x - y is a multiple of 0
 difference_step : (x y k : ℤ) → x -ℤ y ≡ pos 0 *ℤ k → x ≡ y
 difference_step x y k e = let p = simp ring at e in omega (arith, linear, p)
 

@@ -35,7 +35,7 @@ pub trait Exact: Copy + Eq {
     /// The number, as a numerator over a denominator.
     ghost value: { Self → Ratio };
 
-    /// Numbers are the same where their difference is a multiple of this; 0 for fractions.
+    /// Numbers are the same if their difference is a multiple of this; 0 for fractions.
     ghost modulus: { ℕ };
 
     /// Which values fit the type.

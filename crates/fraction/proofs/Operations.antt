@@ -16,7 +16,7 @@ use Rattle.fraction.specs.Quotients.{signed_ratio, IsLowest, quotient}
 use Rattle.fraction.specs.{Faults.IsFractionFault, declared.numbers.Fraction.Fraction, Values.fraction_value, Values.IsFractionOf}
 use Rattle.fraction.specs.{declared.numbers.FractionFault.FractionFault, declared.numbers.FractionFault.TheVariants.TooBig}
 
--- x - y is a multiple of 0 where x = y
+-- x - y is a multiple of 0 if x = y
 product_step : (x y : ℤ) → x ≡ y → x -ℤ y ≡ pos 0 *ℤ pos 0
 product_step x y e = omega (arith, ints, e)
 
@@ -111,7 +111,7 @@ lowest a b g h c =
     let t = lowest_terms a b g h c in
     record { g = g; top = t.top; bottom = t.bottom; common = t.common; positive = t.positive; coprime = t.coprime }
 
--- a fraction of the lowest terms has the value, and where there is none the value has none
+-- a fraction of the lowest terms has the value, and if there is none the value has none
 pub answered : (q : Ratio) (s : Bool) (a b k l : ℕ) (o : Option Fraction) → q ≡ signed_ratio s a b → IsLowest a b k l
     → MatchOption o (¬ AreSmall k l) (λ f. fraction_value f ≡ signed_ratio s k l)
     → IsFractionOf q o
@@ -143,7 +143,7 @@ pub times_is : (a b : Ratio) → quotient (a.num *ℤ b.num) (pos (a.den * b.den
 unfolding ratio_times
 times_is a b = refl
 
--- what an operation answers, where q is its exact result r
+-- what an operation answers, if q is its exact result r
 pub exact_is : (op : Op) (a b : Fraction) (q r : Ratio) (x : Result Fraction (Wide Fraction)) → q ≡ r
     → MatchResult x (λ f. Same 0 (fraction_value f) q) (IsWide IsNarrow op a b q)
     → MatchResult x (λ f. Same 0 (fraction_value f) r) (IsWide IsNarrow op a b r)
@@ -157,7 +157,7 @@ sum_fits x y h k = fits_from_bound (x +ℤ y) (2 ^ 124 + 2 ^ 124) (lit< tt) (bou
 pub difference_fits : (x y : ℤ) → unsigned_abs x ≤ 2 ^ 124 → unsigned_abs y ≤ 2 ^ 124 → FitsSigned w128 (x -ℤ y)
 difference_fits x y h k = fits_from_bound (x -ℤ y) (2 ^ 124 + 2 ^ 124) (lit< tt) (bounded_difference x y (2 ^ 124) (2 ^ 124) h k)
 
--- q·d = n where q is n over d
+-- q·d = n if q is n over d
 quotient_crossed : (n d : ℤ) (q : Ratio) → Same 0 q (quotient n d) → q.num *ℤ d ≡ n *ℤ pos q.den
 quotient_crossed n (pos d) q s = crossed q (quotient n (pos d)) s
 quotient_crossed n (negsuc d) q s = turned q.num (pos (suc d)) n (pos q.den) (crossed q (quotient n (negsuc d)) s)
@@ -173,7 +173,7 @@ crossed_quotient n d q h = grind (arith, same_crossed)
 abbrev pub crosses : Ratio → Ratio → Ratio
 crosses a b = quotient (a.num *ℤ pos b.den) (b.num *ℤ pos a.den)
 
--- x·b = a over the denominators, where x over y is the quotient
+-- x·b = a over the denominators, if x over y is the quotient
 times_step : (x y an ad bn bd : ℤ) → x *ℤ (bn *ℤ ad) ≡ (an *ℤ bd) *ℤ y → (x *ℤ bn) *ℤ ad ≡ an *ℤ (y *ℤ bd)
 times_step x y an ad bn bd e = let p = simp ring at e in simp ring (omega (arith, linear, p))
 
@@ -198,7 +198,7 @@ over_crossed q a (pos m) bd s = over_step q.num (pos q.den) a.num (pos a.den) (p
 over_crossed q a (negsuc m) bd s = over_negative q.num (pos q.den) a.num (pos a.den) (pos (suc m)) (pos bd)
     (crossed q (ratio_times a (inverse_of (negsuc m) bd)) s)
 
--- so where the one has a reduced fraction, the other has it
+-- so if the one has a reduced fraction, the other has it
 over_narrow : (a b : Ratio) → IsNarrow (ratio_over a b) → IsNarrow (crosses a b)
 unfolding ratio_over
 over_narrow a b n = search (arith, crossed_quotient, over_crossed)
@@ -231,7 +231,7 @@ over_or a b q o w x z e h f m =
     (IsOverFault IsNarrow 0 fraction_value a b)) (sym (f ∙ ap (λ y. ok_or o (WideQuotient y)) h))
     (over_by_option a b o z (subst (λ t. IsFractionOf t o) e m))
 
--- the cross product with a denominator is 0 only where the numerator is
+-- the cross product with a denominator is 0 only if the numerator is
 pub cross_not_zero : (a b : Ratio) → 1 ≤ b.den → a.num ≢ pos 0 → a.num *ℤ pos b.den ≢ pos 0
 cross_not_zero a b h n e = positive_not_zero b.den h (other_factor_zero a.num (pos b.den) e n)
 

@@ -10,7 +10,7 @@ use Rattle.fraction.specs.declared.numbers.Fraction.{Fraction}
 abbrev pub fraction_value : Fraction → Ratio
 fraction_value f = ratio f.num f.den
 
--- a fraction with the value r, or none where there is none
+-- a fraction with the value r, or none if there is none
 abbrev pub IsFractionOf : Ratio → Option Fraction → Type 0
 IsFractionOf r o = MatchOption o (¬ IsNarrow r) (λ f. Same 0 (fraction_value f) r)
 

@@ -35,7 +35,7 @@ impl Fraction {
     ghost use Rattle.fraction.specs.Quotients.{quotient};
     ghost use Rattle.fraction.specs.Faults.{IsFractionFault};
 
-    /// The reduced fraction: `Zero` where `den` is 0, and else `TooBig` where the reduced parts
+    /// The reduced fraction: `Zero` if `den` is 0, and else `TooBig` if the reduced parts
     /// do not fit.
     pub fn new(num: i128, den: i128) -> Result<Fraction, FractionFault>
         ensures { MatchResult result

@@ -1,4 +1,4 @@
-// Quotients of whole numbers as fractions in lowest terms, where they fit.
+// Quotients of whole numbers as fractions in lowest terms, if they fit.
 ghost use Rattle.std.specs.Prelude.{◌≡◌, ◌≢◌, ◌≤◌, pos, unsigned_abs, MatchOption};
 ghost use Rattle.std.specs.Int.{IsGcd};
 ghost use Rattle.fraction.specs.Reduced.{AreSmall};

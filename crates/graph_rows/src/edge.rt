@@ -14,7 +14,7 @@ use crate::form::{between, comes_before, is_normal};
 use periodic_net::MOST_SHIFT;
 use quotient_graph::RawEdge;
 
-// The part of a shift, where it is within the limits.
+// The part of a shift, if it is within the limits.
 fn part(n: i128) -> Option<i32>
     ensures found { IfSome result (λ x. n ≡ x) }
     ensures within { IfSome result (λ x. unsigned_abs x ≤ most_shift) }
@@ -27,7 +27,7 @@ fn part(n: i128) -> Option<i32>
     }
 }
 
-// The edge of these numbers, where it is one of a graph of this size.
+// The edge of these numbers, if it is one of a graph of this size.
 fn edge_with(size: &GraphSize, u: i128, v: i128, x: i128, y: i128, z: i128) -> Option<RawEdge>
     ensures u { IfSome result (λ e. u ≡ pos e.u) }
     ensures v { IfSome result (λ e. v ≡ pos e.v) }

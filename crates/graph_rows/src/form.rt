@@ -16,7 +16,7 @@ use quotient_graph::{RawEdge, is_normal_spelling};
 use std::cmp::Ordering;
 use vecdim::Triple;
 
-/// The number, where it is between two.
+/// The number, if it is between two.
 pub fn between(n: i128, low: u32, high: u32) -> Option<u32>
     ensures found { IfSome result (λ k. n ≡ pos k) }
     ensures within { IfSome result (λ k. (low ≤ k) × (k ≤ high)) }
@@ -29,7 +29,7 @@ pub fn between(n: i128, low: u32, high: u32) -> Option<u32>
     }
 }
 
-// The dimension, where it is one of a graph.
+// The dimension, if it is one of a graph.
 fn dimension(n: i128) -> Option<u8>
     ensures found { IfSome result (λ k. n ≡ pos k) }
     ensures form { IfSome result (λ k. (k ≡ 2) ⊎ (k ≡ 3)) }

@@ -53,7 +53,7 @@ pub record LineView : Type 0 where
 abbrev pub line_with : TokenView → List TokenView → LineView
 line_with first others = record { number = first.line; kind = kind_of first.kind first.text; fields = others }
 
--- the line that these tokens make, where there is any
+-- the line that these tokens make, if there is any
 abbrev pub line_of : List TokenView → List LineView
 line_of [] = []
 line_of (first ∷ others) = line_with first others ∷ []

@@ -4,7 +4,7 @@ use Rattle.line_text.specs.Names.{is_name}
 use Rattle.cgd_lex.specs.Tokens.{TokenView}
 use Rattle.cgd_lex.specs.Words.{name_in}
 
--- the bytes, where they are a name
+-- the bytes, if they are a name
 abbrev pub if_name : Option (List ℕ) → Option (List ℕ)
 if_name None = None
 if_name (Some bytes) = if is_name bytes then Some bytes else None

@@ -3,7 +3,7 @@ use Rattle.std.specs.Prelude.{◌≡◌, ℕ, true, List, Option, Some, None, Al
 use Rattle.line_text.specs.Names.{is_name}
 use Rattle.keyline_import.specs.Items.{BodyView, Net, Faulty, ItemView, items_of}
 
--- where it is a net, there is a name, of the form of one
+-- if it is a net, there is a name, of the form of one
 abbrev pub IsNamedAs : BodyView → Option (List ℕ) → Type 0
 IsNamedAs (Net key) None = ⊥
 IsNamedAs (Net key) (Some name) = is_name name ≡ true

@@ -12,10 +12,10 @@ abbrev pub number_of_kind : TokenKind → List ℕ → Option ℤ
 number_of_kind Whole text = number_up_to most_vertices text
 number_of_kind _ text = None
 
--- the number that a token is, where it is whole and at most that of the last vertex, as an absolute value
+-- the number that a token is, if it is whole and at most that of the last vertex, as an absolute value
 abbrev pub number_of : TokenView → Option ℤ
 number_of token = number_of_kind token.kind token.text
 
--- the number, or 0 where the token is none
+-- the number, or 0 if the token is none
 abbrev pub number_or_zero : TokenView → ℤ
 number_or_zero token = unwrap_or (number_of token) (pos 0)

@@ -142,7 +142,7 @@ impl KeyRows {
         Ok(())
     }
 
-    // Takes a row where it may follow, and answers whether it may.
+    // Takes a row if it may follow, and answers whether it may.
     fn add(&mut self, row: RowNumbers) -> Result<bool, NoMemory>
         requires { self.old.repeats < longest_text }
         ensures may { IfOk result (λ may. may ≡ may_follow (key_view self.old) (row_of row)) }
@@ -205,7 +205,7 @@ fn add_space_rows(key: &mut KeyRows, numbers: &[i32]) -> Result<bool, NoMemory>
     Ok(left.is_empty())
 }
 
-// The rows that were read, where they are rows and there is one.
+// The rows that were read, if they are rows and there is one.
 fn if_some_row(good: bool, key: KeyRows) -> Option<KeyRows>
     ensures { option_map key_view result ≡
         if_some_row (if good then Some (key_view key) else None) }
@@ -237,7 +237,7 @@ fn space_key(alloc: Global, numbers: &[i32]) -> Result<Option<KeyRows>, NoMemory
     Ok(if_some_row(good, key))
 }
 
-// What these numbers say as a key, where they are one.
+// What these numbers say as a key, if they are one.
 fn key_of_numbers(alloc: Global, numbers: &[i32]) -> Result<Option<KeyRows>, NoMemory>
     requires { length numbers.now ≤ longest_text }
     ensures { IfOk result (λ key. option_map key_view key ≡ key_of_numbers numbers.now) }
@@ -276,7 +276,7 @@ fn read_numbers(lexer: &mut Lexer<'_>, numbers: &mut Vec<i32>) -> Result<bool, N
     Ok(good)
 }
 
-/// What the fields that are left of a line say as a key, where they are one. The numbers are
+/// What the fields that are left of a line say as a key, if they are one. The numbers are
 /// scratch.
 pub fn read_key(
     alloc: Global,

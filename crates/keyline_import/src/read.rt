@@ -194,7 +194,7 @@ pub fn items<'a>(alloc: Global, text: &'a [u8]) -> Result<Vec<Item<'a>>, ItemRef
 
     // The items of the text, in order.
     ensures items { IfOk result (λ found. AreItemsOf text.now found.items) }
-    // They come only where they are no more than may be; and the refusal only where they are more.
+    // They come only if they are no more than may be; and the refusal only if they are more.
     ensures few { OnOk result (length (items_of text.now) ≤ most_items) }
     ensures too_many { IsErrOf result ItemRefusal.TooManyItems →
         most_items < length (items_of text.now) }

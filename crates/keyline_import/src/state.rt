@@ -36,7 +36,7 @@ impl<'a> State<'a> {
         }
     }
 
-    // The fault of a key line, where it has one. Else its key is kept.
+    // The fault of a key line, if it has one. Else its key is kept.
     fn take_key(
         &mut self,
         alloc: Global,
@@ -65,7 +65,7 @@ impl<'a> State<'a> {
         }
     }
 
-    // The fault of an id line, where it has one. Else its name is kept.
+    // The fault of an id line, if it has one. Else its name is kept.
     fn take_name(&mut self, lexer: &mut Lexer<'a>) -> Option<ItemFaultKind>
         ensures fault { result ≡ name_fault (option_copied self.old.name)
             (name_of_fields (rest_of_line lexer.old)) }
@@ -86,7 +86,7 @@ impl<'a> State<'a> {
         }
     }
 
-    // The fault of the end of the item, where it has one.
+    // The fault of the end of the item, if it has one.
     fn end_fault(&self) -> Option<ItemFaultKind>
         ensures { result ≡
             end_fault (option_map key_view self.now.key) (option_copied self.now.name) }
@@ -98,7 +98,7 @@ impl<'a> State<'a> {
         }
     }
 
-    /// The fault of the line that begins in this way, where it has one. Else the line is added to
+    /// The fault of the line that begins in this way, if it has one. Else the line is added to
     /// what is kept. It is passed over. The numbers are scratch.
     pub fn judge(
         &mut self,

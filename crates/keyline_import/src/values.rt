@@ -6,7 +6,7 @@ ghost use Rattle.keyline_import.specs.Values.{number_of};
 use cgd_lex::{Token, TokenKind, number_up_to};
 use periodic_net::MOST_VERTICES;
 
-/// The number that a token is, where it is a whole number from -512 to 512.
+/// The number that a token is, if it is a whole number from -512 to 512.
 pub fn number_of(token: &Token<'_>) -> Option<i32>
     ensures { result ≡ number_of (token_view token.now) }
 {

@@ -238,7 +238,7 @@ same_colouring : (s t : Split) → s.dim ≡ t.dim → split_view s ≡ split_vi
 same_colouring s t d e = λ i. record { dim = d i; q = (e i).q; c = (e i).c; h = (e i).h }
 
 module _ (G : Graph) (g : IsGraph G) where
-  -- where the net is in several parts
+  -- if the net is in several parts
   one_disconnected : (s t : Split) → IsDisconnectedBy G s → IsDisconnectedBy G t → s ≡ t
   one_disconnected s t a b = same_colouring s t (a.0 ∙ sym b.0) (by a.2 b.2)
     where
@@ -249,7 +249,7 @@ module _ (G : Graph) (g : IsGraph G) where
       by (inr h) (inl k) = absurd (not_sparse G (split_view t) (split_view s) h.0 k h.1)
       by (inr h) (inr k) = one_sparse_split G g (split_view s) (split_view t) h.0 k.0 h.1 k.1
 
-  -- where the closed walks span fewer dimensions
+  -- if the closed walks span fewer dimensions
   one_degenerate : (s t : Split) → IsDegenerateBy G s → IsDegenerateBy G t → s ≡ t
   one_degenerate s t a b = same_colouring s t (a.0 ∙ sym b.0) (one_flat_split G (split_view s) (split_view t) a.2 b.2)
 
@@ -264,7 +264,7 @@ module _ (G : Graph) (g : IsGraph G) where
   connected_not_degenerate : (s : Split) → IsConnected G → ¬ IsDegenerateBy G s
   connected_not_degenerate s c a = split_shows_not_connected G (split_view s) g a.1 c
 
-  -- where no modulus serves
+  -- if no modulus serves
   one_modulus : (a b c d e f : ℕ) → LacksModulus G a b c → LacksModulus G d e f → NoModulus a b c ≡ NoModulus d e f
   one_modulus a b c d e f h k =
       let first = one_pivot _ G a d h.no_first k.no_first in

@@ -94,7 +94,7 @@ one_wide_place G at there a b =
     (λ g. a.unfit g.fit) (λ g. b.unfit g.fit) (sym a.first.split ∙ b.first.split))
     ∙ sym b.stands
 
--- where there is one, not all have 62 bits
+-- if there is one, not all have 62 bits
 pub not_narrow : (G : Graph) (at : Place) → IsFirstWidePlace G at → ¬ AreNarrow G
 not_narrow G at h narrow =
     let first : 0 < suc (length h.first.after) = omega arith in
@@ -160,7 +160,7 @@ module _ (G : Graph) (p : Placement) where
           let one = arc_from_numbers a b same in
           (one, part, h.value ∙ (λ i. coordinate (part i) (arc_vector p (one i))) ∙ sym k.value)
 
-  -- where a multiple of denominators is too great, so is the denominator
+  -- if a multiple of denominators is too great, so is the denominator
   not_both : IsNormalPlacement G p → (u c k : ℕ) (a : Arc) (e : ℕ) (x : ℤ) → IsWideDenominator G p u c k → ¬ IsWideArc G p a e x
   not_both n u c k a e x h w =
       let m = multiple_within G p n u c k h in let wide = h.wide in let d = w.denominator in

@@ -23,7 +23,7 @@ same_split : (S T : Split) → S.q ≡ T.q → S.c ≡ T.c → S.h ≡ T.h → S
 same_split S T q c h = λ i. record { q = q i; c = c i; h = h i }
 
 module _ (G : Graph) (S T : Split) where
-  -- where the quotient graph is not connected
+  -- if the quotient graph is not connected
   pub one_part_split : IsPartSplit G S → IsPartSplit G T → S ≡ T
   one_part_split a b = same_split S T (a.q ∙ sym b.q) (a.c ∙ sym b.c) (same_entries G.vertices S.h T.h a.count b.count at)
     where
@@ -47,7 +47,7 @@ module _ (G : Graph) (S T : Split) (a : IsFlatSplit G S) (b : IsFlatSplit G T) w
       (record { dimension = a.dimension; orthogonal = a.orthogonal; positive = a.positive; lowest = a.lowest; coprime = a.coprime })
       (record { dimension = b.dimension; orthogonal = b.orthogonal; positive = b.positive; lowest = b.lowest; coprime = b.coprime })
 
-  -- where the closed walks have a rank below the dimension
+  -- if the closed walks have a rank below the dimension
   pub one_flat_split : S ≡ T
   one_flat_split = same_split S T (a.q ∙ sym b.q) same_vector (same_entries G.vertices S.h T.h a.count b.count at)
     where
@@ -167,7 +167,7 @@ module _ (G : Graph) (g : IsGraph G) (S T : Split) (k j : ℕ) (a : IsSparseSpli
           let place = a.place in
           absurd (elim g.dimension [ inl d ↦ omega (arith, e, d, place) | inr d ↦ omega (arith, e, d, place) ])
 
-  -- where they have full rank
+  -- if they have full rank
   pub one_sparse_split : S ≡ T
   one_sparse_split = same_split S T same_modulus same_sparse_vector (same_entries G.vertices S.h T.h a.count b.count at)
     where

@@ -14,7 +14,7 @@ use Rattle.least_key.specs.{Causes.unconnected_refusal, Causes.work_refusal, Tru
 use Rattle.least_key.specs.{KeyedNets.KeyedNet, KeyedNets.IsKeyed, declared.net.Net.Net, declared.refusal.Refusal.Refusal}
 use Rattle.edge_frames.specs.declared.work.KeyWork.TheVariants as work
 
--- where the net is not connected
+-- if the net is not connected
 pub unconnected_true : {D : ℕ} (G : Graph) (u : Unconnected D) → IsRefused G u → IsTrueOf G (unconnected_refusal u)
 unconnected_true G (NoMemory graph) h = tt
 unconnected_true G u h = h.1
@@ -23,14 +23,14 @@ unconnected_true G u h = h.1
 abbrev pub shape_of : (n : NetClasses) → AreClasses n → Shape n.graph
 shape_of n h = record { placement = h.placement; stable = h.at.stable; class_of = class_at n.numbers; classes = n.classes; is_classes = h.at.is_classes }
 
--- where the key work of its class graph is past the limit
+-- if the key work of its class graph is past the limit
 too_much : (G : Graph) (p : PlacedNet) → IsSettledAs G p → (n : NetClasses) → AreClasses n → n.graph ≡ G → (done counted : ℕ)
     → IsWorkPast n.classes done counted → HasTooMuchWork G done counted
 too_much G p settled n h e done counted w =
     let pair = subst (λ (H : Graph). (t : Shape H) × IsWorkPast t.classes done counted) e (shape_of n h, w) in
     record { net = p; settled = settled; shape = pair.0; past = pair.1 }
 
--- where the key work is not counted
+-- if the key work is not counted
 pub work_true : (G : Graph) (p : PlacedNet) → IsSettledAs G p → (n : NetClasses) → AreClasses n → n.graph ≡ G → (K : ClassGraph) → K ≡ n.classes
     → (fault : KeyWork)
     → ((done counted : ℕ) → fault ≡ work.TooMuch done counted → IsWorkPast K done counted) → IsTrueOf G (work_refusal fault)

@@ -37,7 +37,7 @@ IsTrueOf G (Collision dim u v t) = IsCollidingAt G dim u v t
 IsTrueOf G (TooMuch done counted) = HasTooMuchWork G done counted
 IsTrueOf G NoMemory = Unit {0}
 
--- it may be reported where a net is tested for connectedness alone
+-- it may be reported if a net is tested for connectedness alone
 abbrev pub IsOfConnecting : Refusal → Type 0
 IsOfConnecting (Disconnected split) = Unit {0}
 IsOfConnecting (Degenerate split) = Unit {0}
@@ -47,7 +47,7 @@ IsOfConnecting (Collision dim u v t) = ⊥
 IsOfConnecting (TooMuch done counted) = ⊥
 IsOfConnecting NoMemory = Unit {0}
 
--- it may be reported where a net is placed, and its key is not asked for
+-- it may be reported if a net is placed, and its key is not asked for
 abbrev pub IsOfPlacing : Refusal → Type 0
 IsOfPlacing (Disconnected split) = Unit {0}
 IsOfPlacing (Degenerate split) = Unit {0}

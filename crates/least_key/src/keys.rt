@@ -31,7 +31,7 @@ fn answers_to(alloc: Global, graphs: &[AnyGraph]) -> Result<Vec<Result<Net, Refu
 }
 
 #[tactic(auto, using(crate::proofs::Truth::keys_tell, crate::proofs::Truth::keys_tell_bare))]
-/// What `identify` answers for each graph; where memory runs out for one of them, it ran out for
+/// What `identify` answers for each graph; if memory runs out for one of them, it ran out for
 /// all. The keys of two accepted graphs are equal if and only if their nets are isomorphic, by a
 /// bijection with a period or by any.
 pub fn keys_of(alloc: Global, graphs: &[AnyGraph]) -> Result<Vec<Result<Net, Refusal>>, NoMemory>

@@ -19,7 +19,7 @@ pub enum AnyPlaced {
     Space(Placed<3>),
 }
 
-/// The graph where its net is connected, and else why it is refused.
+/// The graph if its net is connected, and else why it is refused.
 pub fn connect_graph<const D: usize>(
     alloc: Global,
     graph: Graph<D>,
@@ -58,7 +58,7 @@ fn check_graph<const D: usize>(alloc: Global, graph: Graph<D>) -> Result<(), Ref
     Ok(())
 }
 
-/// Nothing where the net is connected, and else why it is refused.
+/// Nothing if the net is connected, and else why it is refused.
 pub fn check_any(alloc: Global, graph: AnyGraph) -> Result<(), Refusal>
     ensures connected { OnOk result (IsConnected (graph_view graph)) }
     // What the refusal reports is true of this graph,

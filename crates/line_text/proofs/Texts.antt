@@ -153,7 +153,7 @@ module _ (m : ℕ) (small : m < 45) where
   pub at_start : (text : List ℕ) → IsReadTo m text [] text
   at_start text = record { joined = refl; wide = All-nil IsWide; every = λ zs wide e. (zs, refl, e, wide) }
 
-  -- where something is left, it begins with the mark, and a number follows
+  -- if something is left, it begins with the mark, and a number follows
   pub record IsNext (rest : List ℕ) (ws : List ℤ) : Type 0 where
     pub first : ℤ
     pub later : List ℤ
@@ -179,7 +179,7 @@ module _ (m : ℕ) (small : m < 45) where
     all_wide = All-tail IsWide w ws wide;
   }
 
-  -- the text left, where its first byte is the mark
+  -- the text left, if its first byte is the mark
   from_mark : (rest : List ℕ) → 0 < length rest → get_or rest 0 0 ≡ m → rest ≡ m ∷ before m (drop 1 rest) ++ onwards m (drop 1 rest)
   from_mark [] some e = absurd (omega (arith, some))
   from_mark (b ∷ bs) some e = ap (λ x. x ∷ bs) e ∙ ap (λ l. m ∷ l) (sym (joined m bs))
@@ -291,7 +291,7 @@ numbers_have_no (z ∷ zs) wide = (
 pub row_has_no : (word : List ℕ) (zs : List ℤ) → HasNo 10 word → All IsWide zs → HasNo 10 (row_text word zs)
 row_has_no word zs none wide = sum_has_no 10 word (numbers_text zs) none (numbers_have_no zs wide)
 
--- where more rows were passed, less is left
+-- if more rows were passed, less is left
 pub less_left : (text : List ℕ) (rows more : List (List ℕ)) (row : List ℕ) (p q : Place) → IsAt text rows p → IsAt text (rows ++ row ∷ more) q
     → length q.rest < length p.rest
 less_left text rows more row p q earlier later =

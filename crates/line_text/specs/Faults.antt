@@ -7,7 +7,7 @@ use Rattle.line_text.specs.declared.faults.RowFault.TheVariants.{BadLine, NoMemo
 abbrev pub no_memory : RowFault
 no_memory = NoMemory
 
--- where the fault is a bad line, P holds of its number; nothing is said of memory
+-- if the fault is a bad line, P holds of its number; nothing is said of memory
 abbrev pub IfBadLine : (ℕ → Type 0) → RowFault → Type 0
 IfBadLine P (BadLine n) = P n
 IfBadLine P NoMemory = Unit {0}

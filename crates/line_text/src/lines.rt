@@ -52,7 +52,7 @@ impl<'a> Lines<'a> {
         self.rest.is_empty()
     }
 
-    /// The next line without its line feed. The cursor stays where none is left, or where the last
+    /// The next line without its line feed. The cursor stays if none is left, or if the last
     /// one has no line feed.
     pub fn next(&mut self) -> Option<&'a [u8]>
         // The next line, without its line feed, and its number.
@@ -61,7 +61,7 @@ impl<'a> Lines<'a> {
         // The rows that were passed are one more.
         ensures place { (text : List ℕ) (rows : List (List ℕ)) → IsAt text rows self.old →
             IfSome result (λ line. IsAt text (rows ++ line.now ∷ []) self.new) }
-        // Less is left; and where there is no whole line nothing is passed.
+        // Less is left; and if there is no whole line nothing is passed.
         ensures shorter { IfSome result (λ line. length self.new.rest < length self.old.rest) }
         ensures still { IfNone result (self.new ≡ self.old) }
         // Whatever line stands next is found.

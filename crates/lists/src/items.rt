@@ -41,7 +41,7 @@ impl<T> Items<T> {
         Items { items }
     }
 
-    /// Puts a value last. Where memory is refused it is dropped.
+    /// Puts a value last. If memory is refused it is dropped.
     pub fn push(&mut self, item: T) -> Result<(), NoMemory>
     where
         T: Drop,

@@ -44,7 +44,7 @@ impl<T: Numbers> NumberLists<T> {
         }
     }
 
-    /// Puts a list last. Where memory is refused it is dropped.
+    /// Puts a list last. If memory is refused it is dropped.
     pub fn push(&mut self, item: T) -> Result<(), NoMemory>
     where
         T: Drop,

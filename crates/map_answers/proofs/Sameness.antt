@@ -15,7 +15,7 @@ use Rattle.block_answers.specs.{Outcomes.Outcome, Outcomes.AreOutcomesFrom, Outc
 use Rattle.block_answers.proofs.CallerLemmas.{keyed_is_accepted, one_report, read_graph, told_net}
 use Rattle.map_answers.specs.{Nets.AreNetsOf, Nets.IsNetOf, Due.AreMapped, Laws.OneSameness, Steps.nets_told, Steps.with_net}
 
--- a graph in order is within the limits where the graph is
+-- a graph in order is within the limits if the graph is
 small_in_order : (G H : Graph) → IsInOrder G H → IsSmall G → IsSmall H
 small_in_order G H o s =
     let t = reordered_small G.dimension G.vertices G.edges H.edges o.edges (record { vertices = s.vertices; edges = s.edges; shifts = s.shifts }) in
@@ -87,7 +87,7 @@ one_items first first' room ms ns xs ys e s a b = absurd b
 one_maps : (ms ns : List KeyedNet) (x y : Option Maps) → HaveSameGraphs ms ns → AreMapsOf ms x → AreMapsOf ns y → x ≡ y
 one_maps ms ns x y h k l = search (arith, one_items)
 
--- where blocks have their nets all are accepted
+-- if blocks have their nets all are accepted
 all_told : (n : ℕ) (bs : List BlockView) (ns : List KeyedNet) (os : List Outcome) → AreNetsOf bs ns → AreOutcomesFrom [] Key n bs os
     → list_all is_accepted os ≡ true
 all_told n [] ns [] a h = refl
@@ -99,7 +99,7 @@ all_told n (b ∷ bs) (net ∷ ns) (o ∷ os) a h =
     λ i. here i && rest i
 all_told n bs ns os a h = absurd h
 
--- a report that some block is not accepted is none where all are
+-- a report that some block is not accepted is none if all are
 mapped_or_reported : (bs : List BlockView) (s t : List ℕ) → AreMapped bs s → ¬ IsReport Key [] bs false t
 mapped_or_reported bs s t a r = true≢false (sym (all_told 1 bs a.nets r.outcomes a.are_nets r.are_outcomes.each) ∙ sym r.all)
 

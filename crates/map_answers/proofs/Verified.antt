@@ -110,7 +110,7 @@ graph_formed block net is =
       rising = is.read.rising;
     }
 
--- an item may stand in a text, and its map, where it has one, passes
+-- an item may stand in a text, and its map, if it has one, passes
 abbrev IsSound : Graph → ItemView → Type 0
 IsSound G (Without why) = IsTold why
 IsSound G (With H M) = IsFormedGraph H × IsPassing G H M.m M.images M.base

@@ -15,7 +15,7 @@ pub record AreMapped (blocks : List BlockView) (text : List ℕ) : Type 0 where
   pub are_nets : AreNetsOf blocks nets
   pub told : IsMapsTextOf nets text
 
--- the text of the maps where each block is accepted, and else the report of `key`, by the status that goes with it
+-- the text of the maps if each block is accepted, and else the report of `key`, by the status that goes with it
 abbrev pub IsSameAs : List BlockView → Status → List ℕ → Type 0
 IsSameAs blocks Done text = AreMapped blocks text
 IsSameAs blocks SomeRefused text = IsReport Key [] blocks false text

@@ -16,12 +16,12 @@ use Rattle.map_answers.specs.Due.{AreMapped, IsSameAs}
 abbrev pub OneSameness : Type 0
 OneSameness = (blocks : List BlockView) (s t : Status) (x y : List ℕ) → IsSameAs blocks s x → IsSameAs blocks t y → (s ≡ t) × (x ≡ y)
 
--- the verdict on an item: Yes where it has a map, and none where it has not
+-- the verdict on an item: Yes if it has a map, and none if it has not
 abbrev pub passing : ItemView → Option Verdict
 passing (Without why) = None
 passing (With H map) = Some Yes
 
--- the lines that report these verdicts, one for each net after the first: `verified` where there is a map to it, and `unproved` where there is none
+-- the lines that report these verdicts, one for each net after the first: `verified` if there is a map to it, and `unproved` if there is none
 abbrev pub verified_text : Option Maps → List ℕ
 verified_text None = []
 verified_text (Some maps) = rows_text (result_rows 2 maps.first.dimension (map passing maps.items))

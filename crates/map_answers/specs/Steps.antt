@@ -5,7 +5,7 @@ use Rattle.least_key.specs.KeyedNets.{KeyedNet}
 use Rattle.least_key.specs.declared.net.Net.{Net as NetInMemory}
 use Rattle.block_answers.specs.Outcomes.{Outcome, net_told}
 
--- the net that is reported of a block, where one is, before those of other blocks
+-- the net that is reported of a block, if one is, before those of other blocks
 abbrev pub with_net : Option NetInMemory → List KeyedNet → List KeyedNet
 with_net None nets = nets
 with_net (Some net) nets = net_view net ∷ nets

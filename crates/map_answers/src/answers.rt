@@ -13,7 +13,7 @@ use net_report::{Answer, Status};
 use std::alloc::Global;
 
 /// The text of the maps from the net of the first block to those of the others, or the report on
-/// the blocks where one of them is not accepted. The key of each block is sought once.
+/// the blocks if one of them is not accepted. The key of each block is sought once.
 pub fn same_blocks(alloc: Global, found: &[Block<'_>]) -> Result<Answer, NoMemory>
     requires graphs { All (λ block. IsReadBody block.body) found.now }
     requires few { length found.now ≤ most_blocks }

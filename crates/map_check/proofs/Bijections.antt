@@ -1,4 +1,4 @@
--- The map that a table writes down, where it is a bijection, and where it is an isomorphism.
+-- The map that a table writes down, if it is a bijection, and if it is an isomorphism.
 use Rattle.std.proofs.Common.{◌≡◌, ◌≢◌, ◌⊎◌, inl, inr, ℕ, ℤ, pos, ◌+ℤ◌, ◌*ℤ◌, refl, sym, ap, subst, ◌∙◌, arith, ◌-ℤ◌, ◌≤◌, ◌*◌, ◌^◌, ◌<ℤ◌, ◌≤ℤ◌}
 use Rattle.std.{proofs.lemmas.Int.ints, specs.Prelude.unsigned_abs}
 use Prim.{Dec, yes, no}
@@ -63,13 +63,13 @@ flat_sums b n k l p q e =
     coordinates_unique b.first b.second up_vector n k l (any_last b.first b.second up_vector b.third k (p refl) ∙ e
     ∙ any_last b.first b.second b.third up_vector l (q refl))
 
--- where the product is not 0
+-- if the product is not 0
 pub sums_tell : (d : ℕ) (b : Base) → (d ≡ 2) ⊎ (d ≡ 3) → determinant d b ≢ pos 0 → (k l : Vector) → HasDimension d k → HasDimension d l
     → base_sum b k ≡ base_sum b l → k ≡ l
 sums_tell d b (inl e) = subst (SumsTell b) (sym e) (flat_sums b)
 sums_tell d b (inr e) = subst (SumsTell b) (sym e) (λ n k l _ _ h. coordinates_unique b.first b.second b.third n k l h)
 
--- Where no image is another, moved by the shifts, the map is one to one.
+-- If no image is another, moved by the shifts, the map is one to one.
 
 -- p + a = q + b, brought to one side
 brought : (p q a b : ℤ) → p +ℤ a ≡ q +ℤ b → p ≡ q +ℤ (b -ℤ a)
@@ -105,7 +105,7 @@ one_to_one {G} {H} {M} {f} h n a w x i j e =
     let cell : w.cell ≡ x.cell = s.sum ∙ (λ l. plus (same.1 l) (times (pos M.m) (k l))) ∙ sym t.sum in
     λ l. vertex (same.0 l) (cell l)
 
--- Where the images are as many as the vertices up to the shifts, and no image is another moved, each vertex is met.
+-- If the images are as many as the vertices up to the shifts, and no image is another moved, each vertex is met.
 
 -- the image of a place
 abbrev pub image_of : PeriodicMap → Vertex → Vertex
@@ -147,7 +147,7 @@ determinant_not_zero {G} {H} {M} {f} h c e = grind (arith, not_nothing, power_po
 opposite_shift : (b : Base) (k : Vector) → base_sum b (minus zero_vector k) ≡ minus zero_vector (base_sum b k)
 opposite_shift b k = base_sum_minus b zero_vector k ∙ ap (λ (v : Vector). minus v (base_sum b k)) (base_sum_zero b)
 
--- y = a + (0 - s) where a - y = s
+-- y = a + (0 - s) if a - y = s
 back_part : (a y s : ℤ) → a -ℤ y ≡ s → a +ℤ (pos 0 -ℤ s) ≡ y
 back_part a y s e = omega (arith, linear, e)
 
@@ -270,7 +270,7 @@ pub determinant_of_bijection : {G H : Graph} {M : PeriodicMap} {f : Vertex → V
     → determinant G.dimension M.base ≢ pos 0
 determinant_of_bijection {G} {H} {M} {f} h b = determinant_by G.dimension M.base h.graph.dimension (λ e. flat_shifts h (sym h.same ∙ e)) (only_nothing h b)
 
--- Where the map is a bijection, the images are as many as the vertices up to the shifts.
+-- If the map is a bijection, the images are as many as the vertices up to the shifts.
 
 -- moves from one vector differ as the moves do
 difference_vector : (p a b : Vector) → minus (plus p a) (plus p b) ≡ minus a b

@@ -91,7 +91,7 @@ module _ (d v : ℕ) (S : Stairs) (b : Base) (shape : HasStairShape d S) (a : Ha
     is_image : (i : ℕ) → i < length images → IsImage d v (image_at images i)
     is_image i l = each i (vertex 0 zero_vector) l
 
-    -- where no number repeats, no image is a copy
+    -- if no number repeats, no image is a copy
     pub no_copies : (n : ℕ) → n ≤ length images → AreApartBefore numbers n → AreNoCopies d b images n
     no_copies n m apart i j l k c = grind (arith, number_of_copy, is_image)
 
@@ -116,7 +116,7 @@ pub numbers_below : (d v size : ℕ) (S : Stairs) → HasStairShape d S → (ima
     → size_of S ≡ size → length images ≡ v * size → (i : ℕ) → i < length numbers → slice_index_or numbers i 0 < length numbers
 numbers_below d v size S shape images numbers each h e f i l = grind (arith, image_below)
 
--- what the numbers say of the images, where they are looked through
+-- what the numbers say of the images, if they are looked through
 pub copies_found : {E : Type 0} (d v : ℕ) (S : Stairs) (b : Base) → HasStairShape d S → HasMembersOf d S b → (images : List Vertex) (numbers : List ℕ)
     → All (IsImage d v) images
     → AreNumbersOf d S images numbers (length images) → (found : Result (Option ℕ) E)

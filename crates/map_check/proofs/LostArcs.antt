@@ -76,7 +76,7 @@ module _ (G H : Graph) (f : Vertex → Vertex) (w : Vertex) (star : List Arc) wh
   not_kept : (n : ℕ) → KeepsFirst H f w star n → (c : Arc) → IsLost G H f w c → (i : Contains star c) → i.0 < n → ⊥
   not_kept n h c l i b = l.lost (subst (λ (a : Arc). AreJoined H (f w) (f (vertex a.to (plus w.cell a.shift)))) i.2 (h i.0 c b))
 
-  -- where all in the list are kept, all are
+  -- if all in the list are kept, all are
   pub all_kept : ((a : Arc) → IsArc G a → a.from ≡ w.over → Contains star a) → (n : ℕ) → length star ≤ n → KeepsFirst H f w star n → KeepsArcs G H f w
   all_kept every n l h a i e =
       let c = every a i e in let b = c.1 in
@@ -127,7 +127,7 @@ module _ (H : Graph) (f : Vertex → Vertex) (d m u : ℕ) (star : List Arc) (k 
       keeps_more H H f (vertex u (cell_at d m q)) star k a l s (subst (λ (v : ℕ). KeepsArc H f (vertex v (cell_at d m q)) a) from (first.before q c))
       (kept q (omega (arith, b, c)))
 
-  -- where it is lost
+  -- if it is lost
   pub loss_here : p < e → IsLoss H f (vertex u (cell_at d m p)) star k
   loss_here b = record {
     kept = kept p b;
@@ -135,7 +135,7 @@ module _ (H : Graph) (f : Vertex → Vertex) (d m u : ℕ) (star : List Arc) (k 
         (subst (KeepsArc H f (vertex u (cell_at d m p))) (t ∙ get_or_default star k x a l ∙ sym s) j));
   }
 
-  -- the first loss so far: r is k where it is this one, and otherwise the one before
+  -- the first loss so far: r is k if it is this one, and otherwise the one before
   pub loss_after : (lost r s : ℕ) → p ≤ e → (e < s → IsLoss H f (vertex u (cell_at d m e)) star lost) → (p < e → r ≡ k) → (e ≤ p → r ≡ lost) → p < s
       → IsLoss H f (vertex u (cell_at d m p)) star r
   loss_after lost r s b h less same l = by (dec_lt p e)

@@ -155,7 +155,7 @@ module _ (G H : Graph) (m : ℕ) (images : List Vertex) (rows : List Vector) (c 
   degree_of : (i : ℕ) → HasOtherDegree G H M (vertex_at d m i) → HasOtherDegreeAt G H d m images i
   degree_of i t e = t (e ∙ ap (λ (x : Vertex). length (arcs_from H x.over)) (sym (its_image i)))
 
-  -- where no degree differs, they agree
+  -- if no degree differs, they agree
   pub degrees_agree : HoldsNowhere (HasOtherDegreeAt G H d m images) (length images) → DegreesAgree G H M
   degrees_agree none u r uq rb = by (ℕ_discrete (length (arcs_from G u)) (length (arcs_from H (M.image u r).over)))
     where
@@ -175,7 +175,7 @@ module _ (G H : Graph) (m : ℕ) (images : List Vertex) (rows : List Vector) (c 
   first_degree i t = first_of_place (HasOtherDegree G H M) i t.inside (degree_here i t.is) (λ j l p. t.none j l (degree_of j p))
 
   module _ (f : Vertex → Vertex) where
-    -- where all vertices keep their arcs
+    -- if all vertices keep their arcs
     pub arcs_kept : KeepsArcsBefore G H d m f (length images) → ArcsAreKept G H M f
     arcs_kept keep u v r s uq rb a =
         let w = vertex u r in let wb : IsBoxVertex G m w = record { over = uq; box = rb } in

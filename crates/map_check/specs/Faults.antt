@@ -86,7 +86,7 @@ PassesBefore G H M (Degree u r) = (G.dimension ≡ H.dimension) × CountsAgree G
 PassesBefore G H M (LostArc u r v s) =
     (G.dimension ≡ H.dimension) × CountsAgree G H M × HasNoDouble G M × DegreesAgree G H M
 
--- the verdict on the map f that M writes down: Yes where it has no fault, and otherwise the first fault
+-- the verdict on the map f that M writes down: Yes if it has no fault, and otherwise the first fault
 abbrev pub IsVerdict : Graph → Graph → PeriodicMap → (Vertex → Vertex) → Verdict → Type 0
 IsVerdict G H M f Yes = (G.dimension ≡ H.dimension) × Passes G H M f
 IsVerdict G H M f (No fault) = PassesBefore G H M fault × HasFault G H M f fault

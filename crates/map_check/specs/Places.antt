@@ -29,7 +29,7 @@ KeepsArcsBefore G H d m f n = (i : ℕ) → i < n → KeepsArcs G H f (vertex_at
 abbrev pub KeepsArc : Graph → (Vertex → Vertex) → Vertex → Arc → Type 0
 KeepsArc H f w a = AreJoined H (f w) (f (vertex a.to (plus w.cell a.shift)))
 
--- p is the first place below n of a cell of the box from which a is lost, and n where there is none
+-- p is the first place below n of a cell of the box from which a is lost, and n if there is none
 pub record IsFirstLosingCell (H : Graph) (d m : ℕ) (f : Vertex → Vertex) (a : Arc) (n p : ℕ) : Type 0 where
   pub before : (q : ℕ) → q < p → KeepsArc H f (vertex a.from (cell_at d m q)) a
   pub lost : p < n → ¬ KeepsArc H f (vertex a.from (cell_at d m p)) a

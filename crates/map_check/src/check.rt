@@ -96,7 +96,7 @@ fn times(n: u32, index: u128) -> u128
     u128::from(n) * index
 }
 
-// The verdict where the images are as many as the vertices of the second net up to the shifts.
+// The verdict if the images are as many as the vertices of the second net up to the shifts.
 fn verdict_on_images<const D: usize>(
     alloc: Global,
     g: &Graph<D>,

@@ -13,7 +13,7 @@ use std::alloc::Global;
 use sublattice::lattice_of;
 use vecdim::Vect;
 
-/// The place of the first image that is an earlier one, moved by the shifts, where the images are
+/// The place of the first image that is an earlier one, moved by the shifts, if the images are
 /// as many as `n` vertices, taken as often as the index of the shifts' lattice.
 pub fn first_copy<const D: usize>(
     alloc: Global,

@@ -50,7 +50,7 @@ fn is_kept<const D: usize>(
 }
 
 // The place of the first cell of the box, among those before `end`, from which an arc is lost; `end`
-// where there is none. The image of the arc mostly stands where it does for the cell before.
+// if there is none. The image of the arc mostly stands where it does for the cell before.
 fn first_losing_cell<const D: usize>(
     g: &Graph<D>,
     h: &Graph<D>,
@@ -86,7 +86,7 @@ fn first_losing_cell<const D: usize>(
     end
 }
 
-// The place that belongs to the lesser of two numbers, and to the second where they are equal.
+// The place that belongs to the lesser of two numbers, and to the second if they are equal.
 fn earlier(p: usize, end: usize, k: usize, lost: usize) -> usize
     ensures less { p < end → result ≡ k }
     ensures same { end ≤ p → result ≡ lost }

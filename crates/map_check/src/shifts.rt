@@ -45,7 +45,7 @@ pub fn vectors<const D: usize>(alloc: Global, rows: &[Triple]) -> Result<Vec<Vec
     Ok(vs)
 }
 
-/// The index of the lattice that the shifts span; 0 where they are dependent.
+/// The index of the lattice that the shifts span; 0 if they are dependent.
 pub fn shift_index<const D: usize>(rows: &[Vect<D>]) -> u128
     requires dimension { (D ≡ 2) ⊎ (D ≡ 3) }
     requires count { length rows.now ≡ D }

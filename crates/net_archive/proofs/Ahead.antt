@@ -54,7 +54,7 @@ less_after v text es e before after at more = by v refl
     by Two same = less_left text (rows_before v es) _ (name_row e.name) before after at
         (subst (λ l. IsAt text l after) (rows_with v es e ∙ ap (λ u. rows_before v es ++ row_lines (entry_rows u e)) (sym same)) more.at)
 
--- where nothing is left, the text is that of the entries
+-- if nothing is left, the text is that of the entries
 pub whole_text : (v : Version) (text : List ℕ) (es : List EntryView) (place : Place) → IsAt text (rows_before v es) place → length place.rest ≡ 0
     → text ≡ text_of v es
 whole_text v text es place at none = at.joined ∙ ap (λ l. rows_text (rows_before v es) ++ l) (empty place.rest none) ∙ append-nil (rows_text (rows_before v es))

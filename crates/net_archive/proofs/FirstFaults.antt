@@ -250,7 +250,7 @@ pub result_both : {T E : Type 0} (r : Result T E) (P P' : T → Type 0) (Q Q' : 
     → IfErr r Q → MatchResult r P' Q'
 result_both r P P' Q Q' h k l p = search arith
 
--- where there are not as many entries as may be, one more may stand
+-- if there are not as many entries as may be, one more may stand
 pub few_entries : (n : ℕ) (many : Bool) → (most_entries ≤ n → many ≡ true) → many ≡ false → n < most_entries
 few_entries n many when h = search (arith, cases_lt, true≢false)
 
@@ -279,7 +279,7 @@ next_same xs ys n x y h a b e j l = grind arith
 
 -- The faults of the steps are those that are judged of an entry.
 
--- where the graph is refused
+-- if the graph is refused
 pub refused_judged : (v : Version) (line : ℕ) (f : Form) (fault : ArchiveFault) → IsRefusedAt line (graph_of_form f) fault → IsJudged v line f fault
 refused_judged v line f fault k = search arith
 
@@ -291,7 +291,7 @@ has_key f n k g e = record {
   key = subst (IsKeyOf (graph_of_form f)) (sym e) (subst (λ (G : Graph). IsKeyOf G n.key) g (key_of_graph n k));
 }
 
--- where other shells are kept
+-- if other shells are kept
 pub shells_judged : (v : Version) (line : ℕ) (f : Form) (lists : List (List ℕ)) (fault : ArchiveFault) → HasKey f → AreSequencesOf (graph_of_form f) lists
     → (fault ≡ NoMemory) ⊎ ((v ≡ Two) × AreRefusedShells f.keyed.key_line f.shells lists fault) → IsJudged v line f fault
 shells_judged v line f lists fault k s (inl e) = subst (IsJudged v line f) (sym e) tt
@@ -307,7 +307,7 @@ shells_judged v line f lists fault k s (inr (two, h)) = by fault h
     by (VersionAt n) h = absurd h
     by fault h = record { version = two; has_key = k; lists = lists; are_sequences = s; refused = h }
 
--- where another key is kept
+-- if another key is kept
 pub other_judged : (v : Version) (line : ℕ) (f : Form) (n : KeyedNet) (fault : ArchiveFault) → IsKeyed n → n.placed.graph ≡ graph_of_form f
     → IsOtherKey f.keyed n.key fault → IsJudged v line f fault
 other_judged v line f n (KeyDiffers m kept computed) k g h = record {

@@ -113,7 +113,7 @@ same_decides : (xs ys : List ℤ) → (same_key xs ys ≡ true → xs ≡ ys) ×
 same_decides xs ys = slice_eq-Decides Decides-int_eq xs ys (same_key xs ys) refl
 
 module _ (Same : Graph → Graph → Type 0) (tell : KeysDecideBy Same) (G : Graph) (g : IsGraph G) (key : List ℤ) (k : IsKeyOf G key) where
-  -- the entry is found where its net is the same
+  -- the entry is found if its net is the same
   found_same : (e : EntryView) → IsEntry e → same_key e.key key ≡ true → Same G e.graph
   found_same e h s = (tell G e.graph key e.key g h.is_graph k h.key).0 (sym ((same_decides e.key key).0 s))
 
@@ -128,7 +128,7 @@ module _ (Same : Graph → Graph → Type 0) (tell : KeysDecideBy Same) (G : Gra
       → AreNamesBy (Same G) (e ∷ es) names
   missed e es names k l = search arith
 
-  -- the names, where it is known whether the first entry is found
+  -- the names, if it is known whether the first entry is found
   abbrev first_name : Bool → EntryView → List EntryView → List (List ℕ)
   first_name b e es = names_of (cond b (e ∷ filter (λ (x : EntryView). same_key x.key key) es) (filter (λ (x : EntryView). same_key x.key key) es))
 
@@ -161,7 +161,7 @@ record HasKeyAt (entries : List EntryView) (n : ℕ) (key : List ℤ) (m : ℕ) 
   same : entry.key ≡ key
 
 module _ (key : List ℤ) where
-  -- the numbers with a key, where it is known whether the first entry has it
+  -- the numbers with a key, if it is known whether the first entry has it
   abbrev numbers_by : Bool → ℕ → EntryView → List EntryView → List ℕ
   numbers_by b n e es =
       map (λ (p : ℕ × EntryView). p.0)
@@ -211,7 +211,7 @@ module _ (Same : Graph → Graph → Type 0) (tell : KeysDecideBy Same) (es : Li
   among : (m : ℕ) (e : EntryView) → IsEntryAt es m e → Contains es e
   among m e at = (m - 1, slice_get_within es (m - 1) e at.stands, get_or_from_slice_get es (m - 1) e e at.stands)
 
-  -- where its number is in a group, it has the key of the group
+  -- if its number is in a group, it has the key of the group
   key_of_group : (group : List ℕ) (h : IsGroup es group) (m : ℕ) (e : EntryView) → Contains group m → IsEntryAt es m e → e.key ≡ h.key
   key_of_group group h m e c at =
       let r = keyed_in h.key 1 es m (subst (λ g. IsIn g m) h.numbers (is_in group m c)) in
@@ -246,7 +246,7 @@ module _ (Same : Graph → Graph → Type 0) (tell : KeysDecideBy Same) (es : Li
             contains_from_in group n two,
           )
 
--- where groups are reported, they are so
+-- if groups are reported, they are so
 pub groups_told : {E : Type 0} (Same : Graph → Graph → Type 0) → KeysDecideBy Same → (es : List EntryView)
     (r : Result (Vec (Vec ℕ Global) Global) E) → All IsEntry es
     → IfOk r (λ groups. AreGroups es (numbers_in groups.items))

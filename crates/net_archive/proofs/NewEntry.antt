@@ -120,7 +120,7 @@ grown a e is entry free few fits = record {
   fits = fits;
 }
 
--- where the test of a name says no, no entry has it
+-- if the test of a name says no, no entry has it
 pub is_free : (names : List (List ℕ)) (name : List ℕ) (taken : Bool) → (IsTrue taken ↔ Contains names name) → taken ≡ false → ¬ Contains names name
 is_free names name taken says fails there = let holds : taken ≡ true = says.1 there in cc
 
@@ -323,7 +323,7 @@ module _ (a : ArchiveView) (name : List ℕ) (n : KeyedNet) (e : EntryView) (nam
   fault_of_net Full h = (subst (λ (m : List ℕ). ¬ IsTaken a m) of.name_is h.0, named, e, of, h.1)
   fault_of_net NoMemory h = tt
 
-  -- where a fault is reported
+  -- if a fault is reported
   pub fault_told : {T : Type 0} (r : Result T AddFault) → IfErr r (IsEntryFault a e) → IfErr r (IsAddFault a name n)
   fault_told r k = search (arith, fault_of_net)
 
@@ -363,7 +363,7 @@ module _ (a b : ArchiveView) (e : EntryView) (later : List EntryView) (whole : b
 pub one_entry_fault : (a : ArchiveView) (e : EntryView) (f g : AddFault) → IsEntryFault a e f → IsEntryFault a e g → f ≢ NoMemory → g ≢ NoMemory → f ≡ g
 one_entry_fault a e f g l r s t = search arith
 
--- Where a net was added no fault of adding is true but running out of memory, and two such faults are one.
+-- If a net was added no fault of adding is true but running out of memory, and two such faults are one.
 
 entry_there : (P : EntryView → Type 0) (xs : List EntryView) (y : EntryView) (ys : List EntryView) → All P (xs ++ y ∷ ys) → P y
 entry_there P xs y ys all = All-contains P (xs ++ y ∷ ys) y all (Contains-append_right xs (y ∷ ys) y (Contains-append_left (y ∷ []) ys y (Contains-push [] y)))

@@ -102,7 +102,7 @@ IsJudged v line f (ShellsDiffer n class kept computed) = HasOtherShells v f (She
 IsJudged v line f NoMemory = Unit {0}
 IsJudged v line f fault = ⊥
 
--- e is the entry with this name and form; its shells are those that are kept, where they are
+-- e is the entry with this name and form; its shells are those that are kept, if they are
 pub record IsEntryOfForm (v : Version) (name : List ℕ) (f : Form) (e : EntryView) : Type 0 where
   pub name_is : e.name ≡ name
   pub graph : e.graph ≡ graph_of_form f

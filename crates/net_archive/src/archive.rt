@@ -118,7 +118,7 @@ impl Archive {
         }
     }
 
-    /// The names of exactly the entries with this key, in their order. Where it is the key of a
+    /// The names of exactly the entries with this key, in their order. If it is the key of a
     /// graph, these are the entries whose nets are isomorphic to that of the graph.
     pub fn lookup<'a, 'k>(&'a self, key: &'k Key) -> Matches<'a, 'k>
         // The names of exactly the entries with this key, in order,

@@ -89,7 +89,7 @@ fn check_shells(
     })
 }
 
-// That the shells of the classes are kept, where the version has them.
+// That the shells of the classes are kept, if the version has them.
 fn check_version(
     alloc: Global,
     version: Version,
@@ -127,7 +127,7 @@ fn check_key(keyed: &KeyedGraph, net: &Net) -> Result<(), ArchiveFault>
     })
 }
 
-// The shells of the classes of an entry's net, where its key and they are kept.
+// The shells of the classes of an entry's net, if its key and they are kept.
 fn check_net(
     alloc: Global,
     version: Version,
@@ -151,7 +151,7 @@ fn check_net(
     Ok(shells)
 }
 
-// The shells of the classes of an entry's graph, where its key and they are kept. The entry begins
+// The shells of the classes of an entry's graph, if its key and they are kept. The entry begins
 // on this line.
 fn check_form(
     alloc: Global,

@@ -61,12 +61,12 @@ module _ {X : Type 0} (f : X → List ℤ) (xs : List X) (k : ℕ) where
     pub found_at : (v : Option ℤ) → is_some v ≡ true → IsPassed → IsFirstWide (f x) v → IsFirstWide (flat_map f xs) v
     found_at v t h p = h v (subst (λ ts. IsFirstWide (flat_map f ts) v) (sym (left_at xs k x l e)) (wide_some (f x) (flat_map f (drop (k + 1) xs)) v t p))
 
-    -- where it has none, one element more is passed
+    -- if it has none, one element more is passed
     pub passed_more : (v : Option ℤ) → is_some v ≡ false → IsPassed → IsFirstWide (f x) v → (o : Option ℤ) → IsFirstWide (flat_map f (drop (k + 1) xs)) o
         → IsFirstWide (flat_map f xs) o
     passed_more v t h n o q = h o (subst (λ ts. IsFirstWide (flat_map f ts) o) (sym (left_at xs k x l e))
         (wide_more (f x) (flat_map f (drop (k + 1) xs)) v o t n q))
 
-  -- where all are passed, there is none
+  -- if all are passed, there is none
   pub passed_all : IsPassed → length xs ≤ k → IsFirstWide (flat_map f xs) None
   passed_all h l = h None (subst (λ ts. IsFirstWide (flat_map f ts) None) (sym (drop_all xs k l)) wide_none)

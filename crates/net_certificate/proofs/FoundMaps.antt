@@ -1,4 +1,4 @@
--- A map that is found passes the check, where it has no more images than are checked; and its table, from the sides of two nets with one key.
+-- A map that is found passes the check, if it has no more images than are checked; and its table, from the sides of two nets with one key.
 use Rattle.std.proofs.Common.{◌≡◌, ℕ, ◌≤◌, List, length, ap, subst, ◌∙◌, arith, get_or, ◌⊎◌, inl, inr, ℤ, pos, [], ◌∷◌, refl, sym, ◌<◌, ◌*◌, map}
 use Rattle.std.specs.Prelude.{unsigned_abs, All, Result, IfOk}
 use Rattle.std.{proofs.lemmas.Nat.Gcd.le_of_dvd, proofs.lemmas.List.length-map, specs.List.flat_map}
@@ -381,6 +381,6 @@ period_limit S T k C c m shifts p H e h =
     let f = ap (λ (G : Graph). G.vertices) e in
     omega (arith, a, b, f)
 
--- what an answer gives, where there is one
+-- what an answer gives, if there is one
 pub if_ok : {X E : Type 0} (P Q : X → Type 0) → ((x : X) → P x → Q x) → (r : Result X E) → IfOk r P → IfOk r Q
 if_ok P Q k r l = search arith

@@ -15,7 +15,7 @@ use Rattle.net_certificate.specs.declared.item.NoMap.TheVariants as why
 refuted : (G H : Graph) (g : Shape G) (h : Shape H) → IsGraph G → IsGraph H → HaveOtherKeys G H g h → ¬ BareIso G H
 refuted G H g h k l o = other_keys_refute G H g h o.key o.key' k l o.is_key o.is_key' o.differ
 
--- a standard map is there where the keys are equal
+-- a standard map is there if the keys are equal
 of_table : (G H : Graph) (g : Shape G) (h : Shape H) → IsGraph G → IsGraph H → StandardTable G H g h → BareIso G H
 of_table G H g h k l t =
     let s = t.standard in

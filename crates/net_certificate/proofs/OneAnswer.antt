@@ -43,7 +43,7 @@ one_lost_arc G H f w a c h k = by (below_or_equal (arc_numbers a) (arc_numbers c
     by (inr (inr below)) = absurd (h.none c k.lost below)
 
 module _ (G H : Graph) (M : MapTable) (f : Vertex → Vertex) where
-  -- where no image is double there is no first one
+  -- if no image is double there is no first one
   none_double : HasNoDouble G M → (u : ℕ) (r : Vector) → ¬ IsFirstInBox G M.m (IsDoubled G M) (vertex u r)
   none_double once u r t =
       let s = t.is in
@@ -51,11 +51,11 @@ module _ (G H : Graph) (M : MapTable) (f : Vertex → Vertex) where
       let same : vertex u r ≡ s.earlier = (λ i. vertex (q.0 i) (q.1 i)) in
       not_below_itself (pos u ∷ parts 3 r) (subst (λ (w : Vertex). ComesBefore w (vertex u r)) (sym same) s.before)
 
-  -- where the degrees agree none is another
+  -- if the degrees agree none is another
   none_other : DegreesAgree G H M → (u : ℕ) (r : Vector) → ¬ IsFirstInBox G M.m (HasOtherDegree G H M) (vertex u r)
   none_other agree u r t = t.is (agree u r t.inside.over t.inside.box)
 
-  -- where a table passes there is no fault
+  -- if a table passes there is no fault
   none_where_passed : (fault : MapFault) → (G.dimension ≡ H.dimension) → Passes G H M f → ¬ HasFault G H M f fault
   none_where_passed Dimension e p t = t e
   none_where_passed (Count entries product) e p t = t.2 (t.0 ∙ p.counts ∙ sym t.1)

@@ -233,7 +233,7 @@ maps_walk maps are = (
       (items_walk (drawing_of maps.first) 2 [] maps.items refl refl are.few are.items),
 )
 
--- Where one more item was read; less is left.
+-- If one more item was read; less is left.
 
 -- an item has a row
 record HasRow (rows : List Row) : Type 0 where
@@ -298,7 +298,7 @@ second_in text g items H before after formed is read = rows_in text (Opened g it
     (second_walk g items H formed)
     (λ rows at. subst (λ l. IsAt text (rows ++ l) after) (sym (graph_same H)) (read rows at).at)
 
--- where p has a size and then edges, and the first of them were read
+-- if p has a size and then edges, and the first of them were read
 cut_in : (text : List ℕ) (p q : Stage) (before : Place) (is : IsIn text p before) (s : GraphSize) (edges : List Arc) (place : Place)
     → Walk p (OfSize s ∷ map (OfEdge s.dim) edges) q
     → IsAt text ((row_lines is.rows ++ size_row s ∷ []) ++ edge_lines s.dim edges) place → IsIn text q place
@@ -339,7 +339,7 @@ second_bad text g items before n is (inr bad) =
     (bad.is_size, second_edges_walk g items s [] edges (some_edges s text (row_lines is.rows ++ size_row s ∷ []) n bad.bad)) bad.bad.at) bad.bad.number
     (no_second_edge g items (drawing s edges) bad.bad.place.rest bad.bad.few bad.bad.none) (λ may. absurd may)
 
--- and something where one is
+-- and something if one is
 pub something : (xs : List ℕ) → (length xs == 0) ≡ false → xs ≢ []
 something xs e none = true≢false (sym (ap (λ l. length l == 0) none) ∙ e)
 

@@ -220,7 +220,7 @@ heading_none k h l p = search (arith, reason_row_none, map_row_none)
 pub heading_left : (line text : List ℕ) (k : ℕ) (h : Heading) → line ≡ pair_text k ++ text → line ≡ row_line (heading_row k h) → text ≡ heading_text h
 heading_left line text k h one two = append_cancel_left (pair_text k) text (heading_text h) (sym one ∙ two ∙ heading_line k h)
 
--- the reason of this text, where it is a reason
+-- the reason of this text, if it is a reason
 pub heading_told : (text : List ℕ) (a : NoMap) (h : Heading) → IsTold a → text ≡ reason_text a → IsToldHeading h → text ≡ heading_text h
     → Some (Reason a) ≡ Some h
 heading_told text a h k l p q = search (arith, same_reason_text, no_reason_text)

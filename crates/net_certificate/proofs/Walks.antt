@@ -250,7 +250,7 @@ next_same g d d' a b is ha hb e =
     let first = ap (λ n. edge_row n a) ha.0 in let second = ap (λ n. edge_row n b) hb.0 in
     ap (λ n. OfEdge n a) (ha.0 ∙ sym hb.0) ∙ ap (OfEdge d') (same_edge g.size a b is.is_size ha.2.is_edge hb.2.is_edge (sym first ∙ e ∙ second))
 
--- the row of the next image, where one may follow
+-- the row of the next image, if one may follow
 pub image_there : (g : Drawing) (items : List ItemView) (h : Drawing) (M : PeriodicMap) (d b : ℕ) (w x : Vertex)
     → MayFollow (Mapped g items h M) (OfImage d b w x) → OfImage d b w x ≡ OfImage g.size.dim h.size.dim (vertex_at g.size.dim M.m (length M.images)) x
 image_there g items h M d b w x may = cc

@@ -57,7 +57,7 @@ no_row r others left e =
     let one = length-append (row_line r) (10 ∷ rows_text (row_lines others)) in
     omega (arith, whole, two, one)
 
--- a row that may follow does not stand where none follows
+-- a row that may follow does not stand if none follows
 stands : (p : Stage) (r : Row) (others : List Row) (rest left : List ℕ)
     → ((row : Row) (tail : List ℕ) → MayFollow p row → rest ≡ row_line row ++ 10 ∷ tail → ⊥) → MayFollow p r
     → rest ≡ rows_text (row_lines (r ∷ others)) ++ left → ⊥
@@ -156,7 +156,7 @@ none_there p left others formed same none row rest may e =
     let f = cut 0 (row_line row) left [] no here in
     none row f.left may f.joined
 
--- where something is left, something is
+-- if something is left, something is
 some_there : (left others : List ℕ) → first_lines 1 left ≡ first_lines 1 others → left ≢ [] → others ≢ []
 some_there [] others same some none = some refl
 some_there (b ∷ left) others same some none = let e = same ∙ ap (first_lines 1) none in absurd (cc)

@@ -45,7 +45,7 @@ pub record IsMapAnswer (a b : KeyedNet) (room : ℕ) (answer : MapAnswer) : Type
   pub there : IsKeyed b
   pub by : IsAnswerBy a.placed.graph b.placed.graph (shape_of a here) (shape_of b there) room answer
 
--- what an answer says of the infinite graphs: no bijection between the vertices joins images if and only if the vertices are joined, where the
+-- what an answer says of the infinite graphs: no bijection between the vertices joins images if and only if the vertices are joined, if the
 -- nets are answered to be different; and at each other answer some bijection does
 abbrev pub TellsGraphs : Graph → Graph → MapAnswer → Type 0
 TellsGraphs G H Different = ¬ BareIso G H
@@ -58,7 +58,7 @@ pub record IsPassing (G H : Graph) (m : ℕ) (images : List Vertex) (rows : List
   pub suits : SuitsGraphs G H m images rows
   pub yes : (verdict : Verdict) → IsVerified G H m images rows verdict → verdict ≡ Yes
 
--- a map that is found passes where it has no more images than are checked
+-- a map that is found passes if it has no more images than are checked
 abbrev pub PassesIfFound : Graph → Graph → MapAnswer → Type 0
 PassesIfFound G H (Found map) = length map.images ≤ most_images → IsPassing G H map.m map.images map.base
 PassesIfFound G H Different = Unit {0}

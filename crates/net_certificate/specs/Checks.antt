@@ -16,7 +16,7 @@ pub record TellsItems (G : Graph) (items : List ItemView) (text : List ℕ) (ref
   pub text_is : text ≡ rows_text (result_rows 2 G.dimension verdicts)
   pub refused_is : refused ≡ refused_count verdicts
 
--- what is reported of maps; where there is no graph it is nothing
+-- what is reported of maps; if there is no graph it is nothing
 abbrev pub Tells : Option Maps → CheckedMaps → Type 0
 Tells None checked = (checked.text.items ≡ []) × (checked.refused ≡ 0)
 Tells (Some maps) checked = TellsItems maps.first maps.items checked.text.items checked.refused

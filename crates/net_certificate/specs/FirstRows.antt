@@ -67,7 +67,7 @@ IsFormed (Opened g items) = IsOpened g items
 IsFormed (Drawn g items h) = IsOpened g items × IsDrawing h
 IsFormed (Mapped g items h M) = IsOpened g items × IsMapping g h M
 
--- the first n lines of a text, each with its line feed; all of the text where it has fewer
+-- the first n lines of a text, each with its line feed; all of the text if it has fewer
 abbrev pub first_lines : ℕ → List ℕ → List ℕ
 first_lines n [] = []
 first_lines zero (b ∷ bytes) = []

@@ -70,7 +70,7 @@ item_views items = map item_view items
 abbrev pub maps_view : MapsText → Maps
 maps_view t = record { first = graph_view t.first; items = item_views t.items }
 
--- where there is a graph
+-- if there is a graph
 abbrev pub maps_in : Option MapsText → Option Maps
 maps_in None = None
 maps_in (Some t) = Some (maps_view t)

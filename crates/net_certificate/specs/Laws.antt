@@ -14,7 +14,7 @@ use Rattle.net_certificate.specs.declared.answer.MapAnswer.{MapAnswer}
 abbrev pub OneMapAnswer : Type 0
 OneMapAnswer = (a b : KeyedNet) (room : ℕ) (s t : MapAnswer) → IsMapAnswer a b room s → IsMapAnswer a b room t → s ≡ t
 
--- a map that is found passes the check, where it has no more images than are checked
+-- a map that is found passes the check, if it has no more images than are checked
 abbrev pub FoundMapsPass : Type 0
 FoundMapsPass = (G H : Graph) (g : Shape G) (h : Shape H) (room m : ℕ) (images : List Vertex) (rows : List Vector) → IsGraph G → IsGraph H
     → H.vertices ≤ most_vertices → IsFound G H g h room m images rows → length images ≤ most_images → IsPassing G H m images rows

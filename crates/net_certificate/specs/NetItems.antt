@@ -18,12 +18,12 @@ item_by H (LongMap entries) = Without (why.Long entries)
 item_by H (WideMap value) = Without (why.Wide value)
 item_by H (Found map) = With H map
 
--- the numbers that are reported where there is no map have 64 and 128 bits
+-- the numbers that are reported if there is no map have 64 and 128 bits
 abbrev pub HasItsBits : ItemView → Type 0
 HasItsBits (Without why) = IsTold why
 HasItsBits (With H map) = Unit {0}
 
--- the item of a net, where so many images may be printed
+-- the item of a net, if so many images may be printed
 pub record IsItemOf (first : KeyedNet) (room : ℕ) (net : KeyedNet) (item : ItemView) : Type 0 where
   pub answer : MapAnswer
   pub is_answer : IsMapAnswer first net room answer
@@ -35,14 +35,14 @@ abbrev pub images_in : ItemView → ℕ
 images_in (Without why) = 0
 images_in (With H map) = length map.images
 
--- the items of these nets in their order, where so many images may be printed; each image that is printed leaves room for one less
+-- the items of these nets in their order, if so many images may be printed; each image that is printed leaves room for one less
 abbrev pub AreItemsOf : KeyedNet → ℕ → List KeyedNet → List ItemView → Type 0
 AreItemsOf first room [] [] = Unit {0}
 AreItemsOf first room (net ∷ nets) (item ∷ items) = IsItemOf first room net item × AreItemsOf first (room - images_in item) nets items
 AreItemsOf first room nets items = ⊥
 
 -- of each net it is said that it is different if and only if no bijection between the vertices of the first net and its own joins images exactly
--- where the vertices are joined
+-- if the vertices are joined
 abbrev pub AreToldApart : KeyedNet → List KeyedNet → List ItemView → Type 0
 AreToldApart first [] [] = Unit {0}
 AreToldApart first (net ∷ nets) (item ∷ items) = ((item ≡ Without why.Different) ↔ (¬ BareIso first.placed.graph net.placed.graph))
@@ -55,7 +55,7 @@ pub record AreMapsFrom (first : KeyedNet) (nets : List KeyedNet) (maps : Maps) :
   pub are_items : AreItemsOf first most_images nets maps.items
   pub apart : AreToldApart first nets maps.items
 
--- where there is no net there are none
+-- if there is no net there are none
 abbrev pub AreMapsOf : List KeyedNet → Option Maps → Type 0
 AreMapsOf [] None = Unit {0}
 AreMapsOf (first ∷ nets) (Some maps) = AreMapsFrom first nets maps

@@ -21,7 +21,7 @@ AreVerdicts G [] [] = Unit {0}
 AreVerdicts G (item ∷ items) (verdict ∷ verdicts) = IsVerdictOf G item verdict × AreVerdicts G items verdicts
 AreVerdicts G items verdicts = ⊥
 
--- the line of graph k, where the first net has dimension d
+-- the line of graph k, if the first net has dimension d
 abbrev pub result_row : ℕ → ℕ → Option Verdict → List ℕ
 result_row k d None = unproved_row k
 result_row k d (Some verdict) = verdict_row k d verdict
@@ -41,7 +41,7 @@ abbrev pub is_refused : Option Verdict → Bool
 is_refused None = false
 is_refused (Some verdict) = is_no verdict
 
--- 1 where it is so
+-- 1 if it is so
 abbrev pub one_where : Bool → ℕ
 one_where b = if b then 1 else 0
 

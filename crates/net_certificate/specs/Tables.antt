@@ -30,7 +30,7 @@ AreFirstImages S T m n xs =
 abbrev pub AreImages : NetSide → NetSide → ℕ → List Vertex → Type 0
 AreImages S T m xs = (carry : Vertex → Vertex) → IsStandardBy S T carry → xs ≡ map carry (box_vertices S.net.graph m)
 
--- the first number past the limit, where there is one; otherwise all numbers are within it
+-- the first number past the limit, if there is one; otherwise all numbers are within it
 abbrev pub IsFirstWide : List ℤ → Option ℤ → Type 0
 IsFirstWide xs None = All (λ x. unsigned_abs x ≤ most_part) xs
 IsFirstWide xs (Some v) = IsFirstPast most_part xs v

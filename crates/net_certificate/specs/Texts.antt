@@ -37,7 +37,7 @@ abbrev pub items_rows : ℕ → ℕ → List ItemView → List Row
 items_rows d k [] = []
 items_rows d k (item ∷ items) = item_rows d k item ++ items_rows d (k + 1) items
 
--- the rows of a text; where there is no graph it has the first alone
+-- the rows of a text; if there is no graph it has the first alone
 abbrev pub maps_rows : Option Maps → List Row
 maps_rows None = OfTitle ∷ []
 maps_rows (Some maps) = OfTitle ∷ (graph_rows maps.first ++ items_rows maps.first.dimension 2 maps.items)

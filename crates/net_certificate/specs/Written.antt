@@ -22,7 +22,7 @@ pub record IsSideOf (n : KeyedNet) (S : NetSide) : Type 0 where
   pub scale : IsLeastScale n.classes.classes (axes_of S.frame) S.scale
   pub scale_is : S.scale ≡ unsigned_abs (slice_index_or n.key 2 (pos 0))
 
--- the first part past the limit; where there is none, the map with this period, these images and these rows
+-- the first part past the limit; if there is none, the map with this period, these images and these rows
 abbrev pub IsWritten : ℕ → ℕ → List Vertex → List Vector → MapAnswer → Type 0
 IsWritten d m images rows Different = ⊥
 IsWritten d m images rows (LongMap entries) = ⊥

@@ -64,8 +64,8 @@ fn answer_apart<const D: usize, const E: usize>(a: &NetOf<D>, b: &NetOf<E>, room
     MapAnswer::Different
 }
 
-/// The standard map of two nets, with room for so many images. Different comes where their keys
-/// differ, LongMap where the map has more images, and WideMap where a part of it is past 2^38. A
+/// The standard map of two nets, with room for so many images. Different comes if their keys
+/// differ, LongMap if the map has more images, and WideMap if a part of it is past 2^38. A
 /// map that is found passes the check of maps.
 pub fn map_between(alloc: Global, a: &Net, b: &Net, room: u64) -> Result<MapAnswer, NoMemory>
     ensures answer { IfOk result (IsMapAnswer (net_view a.now) (net_view b.now) room) }

@@ -20,7 +20,7 @@ pub fn one_map_answer()
     ensures theorem { OneMapAnswer }
 {}
 
-/// A map that is found passes the check of maps, where it has no more images than are checked.
+/// A map that is found passes the check of maps, if it has no more images than are checked.
 pub fn found_maps_pass()
     ensures theorem { FoundMapsPass }
 {}

@@ -20,7 +20,7 @@ pub fn dimension_of(net: &Net) -> u8
     }
 }
 
-/// The item of a net, where so many images may be printed.
+/// The item of a net, if so many images may be printed.
 pub fn item_of(alloc: Global, first: &Net, net: &Net, room: u64) -> Result<Item, NoMemory>
     requires { room ≤ most_images }
     ensures item { IfOk result (λ item.

@@ -54,7 +54,7 @@ fn push_maps<T: LendsNet>(text: &mut Vec<u8>, first: &Net, nets: &[T]) -> Result
 }
 
 /// The text that the command `same` prints for these nets: the maps from the first to the others,
-/// or the first line alone, where there is no net. At most 100,000 images are printed.
+/// or the first line alone, if there is no net. At most 100,000 images are printed.
 pub fn maps_text(alloc: Global, nets: &[Net]) -> Result<Vec<u8>, NoMemory>
     requires few { length nets.now + 1 < 2 ^ 32 }
     ensures { IfOk result (λ text. IsMapsTextOf (map net_view nets.now) text.items) }

@@ -40,7 +40,7 @@ fn after_pair<'a>(line: &'a [u8], k: u32) -> Option<&'a [u8]>
     }
 }
 
-// The number, where it has 64 bits.
+// The number, if it has 64 bits.
 fn short(n: i128) -> Option<u64>
     ensures found { IfSome result (λ k. n ≡ pos k) }
     ensures form { IfSome result (λ k. k < 2 ^ 64) }
@@ -121,7 +121,7 @@ fn heading_of(text: &[u8]) -> Option<Heading>
     }
 }
 
-/// What the next line says of graph k, where it is the first line of its item.
+/// What the next line says of graph k, if it is the first line of its item.
 pub fn next_heading(lines: &mut Lines<'_>, k: u32) -> Option<Heading>
     ensures place { (text : List ℕ) (rows : List (List ℕ)) → IsAt text rows lines.old →
         IfSome result (λ h. IsAt text (rows ++ row_line (heading_row k h) ∷ []) lines.new) }

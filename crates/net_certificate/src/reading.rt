@@ -89,7 +89,7 @@ fn read_pair(
     }
 }
 
-/// The item of graph k, where the first graph has this size, or the number of the first line that
+/// The item of graph k, if the first graph has this size, or the number of the first line that
 /// may not stand where it stands.
 pub fn read_item(
     lines: &mut Lines<'_>,

@@ -16,7 +16,7 @@ fn is_small(n: i128) -> bool
     n.unsigned_abs() <= u128::from(MOST_PART)
 }
 
-// The vector with these parts, where they are small.
+// The vector with these parts, if they are small.
 fn small_vector(x: i128, y: i128, z: i128) -> Option<Triple>
     ensures x { IfSome result (λ v. x ≡ v.x) }
     ensures y { IfSome result (λ v. y ≡ v.y) }

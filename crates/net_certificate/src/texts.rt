@@ -18,7 +18,7 @@ use lists::Items;
 use quotient_graph::AnyGraph;
 use std::alloc::Global;
 
-// The first graph, where the text has one, or the number of the first line that is none of its own.
+// The first graph, if the text has one, or the number of the first line that is none of its own.
 fn read_graph_after(
     lines: &mut Lines<'_>,
     numbers: &mut Vec<i128>,
@@ -36,7 +36,7 @@ fn read_graph_after(
     Ok(Some(graph))
 }
 
-/// The first graph of a text, where there is one, or the number of the first line that may not
+/// The first graph of a text, if there is one, or the number of the first line that may not
 /// stand where it stands.
 pub fn read_first(
     lines: &mut Lines<'_>,
@@ -56,7 +56,7 @@ pub fn read_first(
     }
 }
 
-// The items that are left of a text, or the number of the first line that may not stand where it
+// The items that are left of a text, or the number of the first line that may not stand if it
 // stands.
 fn read_items(
     lines: &mut Lines<'_>,

@@ -146,7 +146,7 @@ fn push_with(
     push_end(text)
 }
 
-/// The item of graph k, where the first net has this dimension.
+/// The item of graph k, if the first net has this dimension.
 pub fn push_item(text: &mut Vec<u8>, k: u32, dim: u8, item: &Item) -> Result<(), NoMemory>
     requires { IsWritable (item_view item.now) }
     ensures { OnOk result (text.new.items ≡ text.old.items ++

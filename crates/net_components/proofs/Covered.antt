@@ -236,7 +236,7 @@ at_most n zero h = absurd (let e = none n in omega arith)
     none n = omega arith
 at_most n (suc k) h = grind arith
 
--- the product of the pivots is at most the volume, where it is not 0
+-- the product of the pivots is at most the volume, if it is not 0
 pub size_at_most : (S : Stairs) (u v w : Vector) → InStairs S u → InStairs S v → InStairs S w → 1 ≤ unsigned_abs (dot (cross u v) w)
     → size_of S ≤ unsigned_abs (dot (cross u v) w)
 size_at_most S u v w p q r some =
@@ -345,7 +345,7 @@ module _ (G : Graph) (g : IsGraph G) (cs : List Component) (u : ℕ) (q : IsQuot
       let f = h.covers b k.vertex l in let c = component_in f.0 f.1 in
       (f.0, f.1, one_least G f.0.root b c.least k (found_in G f.0 c b k.vertex f.2 g))
 
-  -- where the next is of low rank it is the first
+  -- if the next is of low rank it is the first
   pub low_rank : ¬ IsFoundIn cs u → (c : Vector) → IsFlatAt G u c → IsLowRank G u c
   low_rank none c flat = record {
     least = next_least none;
@@ -353,7 +353,7 @@ module _ (G : Graph) (g : IsGraph G) (cs : List Component) (u : ℕ) (q : IsQuot
     first = λ b k l. let f = earlier_full b k l in (f.0.stairs, subst (λ a. IsFullAt G a f.0.stairs) f.2 (component_in f.0 f.1).full);
   }
 
-  -- where it was found, nothing is added
+  -- if it was found, nothing is added
   pub passed : IsFoundIn cs u → AreComponentsTo G cs (u + 1)
   passed f = record {
     each = h.each;

@@ -279,11 +279,11 @@ module _ (G : Graph) (g : IsGraph G) (s : IsSmall G) (c : Component) (h : IsComp
             coordinates = sum ∙ sym (λ t. minus (plus (P.2 t) e.shift) (Q.2 t));
           }
 
-      -- where it is past the limit
+      -- if it is past the limit
       pub wide_at : (p : ℕ) (value : ℤ) → IsFirstWide k p value → IsWideAt G c.root e p value
       wide_at p value w = record { k = k; shift = shift_is; first = w; inside = inside_of G.dimension p k value g.dimension flat w }
 
-      -- and where it is not
+      -- and if it is not
       pub edge_is : (u v : ℕ) → IsNumber (length (vertices_of 1 c.found)) u → IsNumber (length (vertices_of 1 c.found)) v
           → vertex_at (vertices_of 1 c.found) u ≡ e.from
           → vertex_at (vertices_of 1 c.found) v ≡ e.to → IsWithin most_shift k → IsEdgeOf G c e (arc u v k)

@@ -47,7 +47,7 @@ split_at [] i x l at = absurd (omega arith)
 split_at (y ∷ xs) zero x l at = ap (λ z. z ∷ xs) at
 split_at (y ∷ xs) (suc i) x l at = ap (λ zs. y ∷ zs) (split_at xs i x (omega arith) at)
 
--- a list is split in one way at the first member of a kind: where neither of two members stands before the other
+-- a list is split in one way at the first member of a kind: if neither of two members stands before the other
 pub split_once : {X : Type 0} (before before' after after' : List X) (x x' : X) → before ++ x ∷ after ≡ before' ++ x' ∷ after' → ¬ IsIn before x'
     → ¬ IsIn before' x → x ≡ x'
 split_once [] [] after after' x x' e m n = cc

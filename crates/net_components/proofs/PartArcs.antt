@@ -26,7 +26,7 @@ one_normal G a c e h k =
 
 -- Coordinates in the rows of a staircase, as a sum along them.
 
--- where the last coordinate is 0
+-- if the last coordinate is 0
 none : (z r : ℤ) → z ≡ pos 0 → pos 0 ≡ z *ℤ r
 none z r e = let p = ap (λ t. t *ℤ r) e in omega (arith, linear, simp ring at p)
 
@@ -173,7 +173,7 @@ module _ (K : ℕ → Type 0) (W : Arc → Arc → Type 0) where
   edge_written (d ∷ es) (f ∷ fs) (inr h) e (inl s) k = (f, inl refl, subst (λ x. W x f) s h.1)
   edge_written (d ∷ es) (f ∷ fs) (inr h) e (inr i) k = let w = edge_written es fs h.2 e i k in (w.0, inr w.1, w.2)
 
-  -- where what is written determines the edge, different edges are written differently
+  -- if what is written determines the edge, different edges are written differently
   pub written_apart : ((d e f : Arc) → W d f → W e f → d ≡ e) → (es fs : List Arc) → AreWritten K W es fs → AreApart es → AreApart fs
   written_apart once es [] w h = tt
   written_apart once [] (g ∷ fs) w h = elim w [ ]
@@ -208,7 +208,7 @@ written_as K V W g (e ∷ es) [] h = (h.0, written_as K V W g es [] h.1)
 written_as K V W g (e ∷ es) (f ∷ fs) (inl h) = inl (h.0, written_as K V W g es (f ∷ fs) h.1)
 written_as K V W g (e ∷ es) (f ∷ fs) (inr h) = inr (h.0, g e f h.0 h.1, written_as K V W g es fs h.2)
 
--- where an edge is written in one way, one list is written
+-- if an edge is written in one way, one list is written
 pub written_once : (K : ℕ → Type 0) (V W : Arc → Arc → Type 0) → ((e f g : Arc) → K e.from → V e f → W e g → f ≡ g) → (es fs gs : List Arc)
     → AreWritten K V es fs → AreWritten K W es gs → fs ≡ gs
 written_once K V W once [] (f ∷ fs) gs h k = absurd h

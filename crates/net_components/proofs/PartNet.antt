@@ -27,7 +27,7 @@ use Rattle.net_components.specs.{ComponentSets.InCopy, Ranks.IsFlatAt, Ranks.IsF
 positive_factor : (k a : ℤ) → pos 0 <ℤ a → pos 0 <ℤ (k *ℤ a) → pos 0 <ℤ k
 positive_factor k a q r = grind (arith, multiple_below, *ℤ_comm)
 
--- a factor beside a positive one is 0 where the product is
+-- a factor beside a positive one is 0 if the product is
 pub zero_factor : (k a : ℤ) → pos 0 <ℤ a → k *ℤ a ≡ pos 0 → k ≡ pos 0
 zero_factor k a h e = other_factor_zero a k (*ℤ_comm a k ∙ e) (positive_is_some a h)
 

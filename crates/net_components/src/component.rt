@@ -69,7 +69,7 @@ fn full_component<const D: usize>(
     }
 }
 
-/// The component of a least vertex, where its closed walks have full rank.
+/// The component of a least vertex, if its closed walks have full rank.
 pub fn component_of<const D: usize>(
     alloc: Global,
     g: &Graph<D>,

@@ -53,7 +53,7 @@ fn next_component<const D: usize>(
     component_of(alloc, g, u)
 }
 
-/// All components, where the closed walks of each have full rank.
+/// All components, if the closed walks of each have full rank.
 pub fn components_of<const D: usize>(
     alloc: Global,
     g: &Graph<D>,

@@ -120,7 +120,7 @@ pub fn components(alloc: Global, g: &AnyGraph) -> Result<Vec<Part>, PartFault>
     // The net of each part is connected, and carried one to one onto each of its copies: the laws
     // `parts_are_nets` and `copies_are_counted` say so of any such list.
     ensures parts { IfOk result (λ ps. AreParts (graph_view g.now) ps.items) }
-    // The first component of low rank; where there is none, the first shift that is too wide.
+    // The first component of low rank; if there is none, the first shift that is too wide.
     ensures fault { IfErr result (IsPartFault (graph_view g.now)) }
 {
     match g {

@@ -211,7 +211,7 @@ read_spelled word R h = by (map number_of (pieces_of word)) (is_spelled word (ce
     by : (zs : List ℤ) (t : Bool) → is_spelled word (cell_with zs) ≡ t → cond t (Some (cell_with zs)) None ≡ Some R → SpellsCell word R
     by zs t h l = grind (arith, true_spelled, none-some)
 
--- what is the cell that a word spells, and none where it spells none, is what is read
+-- what is the cell that a word spells, and none if it spells none, is what is read
 pub is_read : (word : List ℕ) (o : Option CellView) → IfSome o (SpellsCell word) → (o ≡ None → (R : CellView) → ¬ SpellsCell word R) → o ≡ cell_of word
 is_read word (Some R) h n = sym (spelled_read word R h)
 is_read word None h n = by (cell_of word) refl

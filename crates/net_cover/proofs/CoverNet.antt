@@ -72,7 +72,7 @@ lift_turned d b S a i j e h = record {
   };
 }
 
--- where a lift is a loop with shift 0, so is what it lifts
+-- if a lift is a loop with shift 0, so is what it lifts
 pub lift_point : (d : ℕ) (b : Base) (S : Stairs) (a : Arc) (i : ℕ) (e : Arc) → 1 ≤ a.from → 1 ≤ a.to → IsLift d b S a i e → e.from ≡ e.to
     → e.shift ≡ zero_vector
     → (a.from ≡ a.to) × (a.shift ≡ zero_vector)
@@ -202,7 +202,7 @@ module _ (d : ℕ) (b : Base) (S : Stairs) (dim : (d ≡ 2) ⊎ (d ≡ 3)) (c : 
   pub shift_once : (a : Arc) (i : ℕ) (k l : Vector) → IsNewShift d b S a i k → IsNewShift d b S a i l → k ≡ l
   shift_once a i k l s t = (lift_once a i k l s t).1
 
--- where the remainder is one, so is the sum
+-- if the remainder is one, so is the sum
 same_sum : (r v k l : Vector) → v ≡ plus r k → v ≡ plus r l → k ≡ l
 same_sum r v k l e f = plus_cancel r k l (sym e ∙ f)
 

@@ -1,4 +1,4 @@
--- The fault of a cell is one, there is none where the graph has a cover within the limits, and the cover is one.
+-- The fault of a cell is one, there is none if the graph has a cover within the limits, and the cover is one.
 use Rattle.std.proofs.Common.{◌≡◌, ◌⊎◌, inl, inr, ℕ, ◌*◌, List, sym, ap, subst, ◌∙◌, ◌≢◌, ◌<◌, ◌≤◌, ℤ, refl, arith}
 use Rattle.std.{proofs.lemmas.Bool.cases_order, specs.Prelude.slice_index_or, specs.Prelude.unsigned_abs, specs.List.Contains}
 use Rattle.integers.specs.Vectors.{Vector, zero_vector, up_vector, IsWithin, IsBelow}
@@ -106,7 +106,7 @@ one_wide G b x y g c s t =
 past_limit : (count n most : ℕ) → count ≡ n → most < count → ¬ (n ≤ most)
 past_limit count n most e l h = omega (arith, e, l, h)
 
--- where a graph has a cover within the limits, no fault applies but running out of memory
+-- if a graph has a cover within the limits, no fault applies but running out of memory
 pub cover_is_not_refused : CoverIsNotRefused
 cover_is_not_refused G R CellDimension g c f = absurd (f c.0.0.0.0)
 cover_is_not_refused G R CellRank g c f = absurd (c.0.0.0.1 f.1)

@@ -8,7 +8,7 @@ use Rattle.sublattice.specs.Remainders.{remainder_with}
 use Rattle.sublattice.specs.Sublattices.{index_of, IsSublattice}
 use Rattle.vecdim.specs.Stairs.{Stairs, size_of}
 
--- the number of vertex u at the remainder with number i, where there are n remainders
+-- the number of vertex u at the remainder with number i, if there are n remainders
 abbrev pub number_in_cover : ℕ → ℕ → ℕ → ℕ
 number_in_cover n u i = (u - 1) * n + i + 1
 

@@ -21,7 +21,7 @@ OneCoverFault =
     (G : Graph) (R : CellView) (f h : CoverFault) → IsGraph G → IsWritten R → IsCoverFault G R f
     → IsCoverFault G R h → f ≢ NoMemory → h ≢ NoMemory → f ≡ h
 
--- where a graph has a cover within the limits, no fault applies but running out of memory
+-- if a graph has a cover within the limits, no fault applies but running out of memory
 abbrev pub CoverIsNotRefused : Type 0
 CoverIsNotRefused =
     (G : Graph) (R : CellView) (f : CoverFault) → IsGraph G → IsCoverable G R → IsCoverFault G R f

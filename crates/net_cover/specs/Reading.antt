@@ -34,7 +34,7 @@ flat_with numbers =
 abbrev pub space_with : List ℤ → CellView
 space_with numbers = cell_view 3 (row_in numbers 0) (row_in numbers 3) (row_in numbers 6)
 
--- the cell of these numbers: of dimension 2, where there are four
+-- the cell of these numbers: of dimension 2, if there are four
 abbrev pub cell_with : List ℤ → CellView
 cell_with numbers = cond (length numbers == 4) (flat_with numbers) (space_with numbers)
 
@@ -46,7 +46,7 @@ is_small z = not (nat_lt most_shift (unsigned_abs z))
 abbrev pub is_spelled : List ℕ → CellView → Bool
 is_spelled word R = bytes_eq word (joined_text (cell_numbers R)) && list_all is_small (cell_numbers R)
 
--- the cell of the numbers of a word, where the word spells it
+-- the cell of the numbers of a word, if the word spells it
 abbrev pub cell_of : List ℕ → Option CellView
 cell_of word =
     if is_spelled word (cell_with (map number_of (pieces_of word)))

@@ -12,7 +12,7 @@ use periodic_net::MOST_SHIFT;
 use std::alloc::Global;
 use vecdim::Triple;
 
-// The cell of dimension 2 with these rows, where their parts are small.
+// The cell of dimension 2 with these rows, if their parts are small.
 fn flat_cell(a: Triple, b: Triple) -> Option<Cell>
     requires first { a.z ≡ pos 0 }
     requires second { b.z ≡ pos 0 }

@@ -14,7 +14,7 @@ use periodic_net::{MOST_EDGES, MOST_VERTICES};
 use quotient_graph::{AnyGraph, Graph};
 use std::alloc::Global;
 
-// The index of a cell, where the cover is not too large.
+// The index of a cell, if the cover is not too large.
 fn index_of<const D: usize>(g: &Graph<D>, cell: &Cell) -> Result<u32, CoverFault>
     ensures index { IfOk result (λ n. n ≡ index_in cell.now) }
     ensures fits { OnOk result (FitsEdges g.now cell.now) }
@@ -84,7 +84,7 @@ pub fn cover(alloc: Global, g: &AnyGraph, cell: &Cell) -> Result<AnyGraph, Cover
     ensures iso { IfOk result (λ c. Iso (graph_view g.now) (graph_view c)) }
     // It has the index times as many vertices and edges.
     ensures size { IfOk result (λ c. HasCoverSize (graph_view g.now) cell.now.rows (graph_view c)) }
-    // It comes only where a cover within the limits is there.
+    // It comes only if a cover within the limits is there.
     ensures coverable { OnOk result (IsCoverable (graph_view g.now) cell.now) }
     // Else memory ran out, or it is the first fault that applies, with its value.
     ensures fault { IfErr result (IsCoverFault (graph_view g.now) cell.now) }

@@ -12,7 +12,7 @@ pub fn one_cover_fault()
     ensures theorem { OneCoverFault }
 {}
 
-/// Where a graph has a cover within the limits, no fault applies but running out of memory.
+/// If a graph has a cover within the limits, no fault applies but running out of memory.
 #[tactic(auto, using(crate::proofs::OneCover::cover_is_not_refused))]
 pub fn cover_is_not_refused()
     ensures theorem { CoverIsNotRefused }

@@ -14,7 +14,7 @@ use std::alloc::Global;
 use sublattice::{remainder_at, remainder_number};
 use vecdim::{Shift, Staircase, Triple};
 
-// A part of a new shift, where it is within the limit.
+// A part of a new shift, if it is within the limit.
 fn small_part(x: i128) -> Result<i32, CoverFault>
     ensures part { IfOk result (λ p. p ≡ x) }
     ensures small { IfOk result (λ p. unsigned_abs p ≤ most_shift) }
@@ -26,7 +26,7 @@ fn small_part(x: i128) -> Result<i32, CoverFault>
     Ok(x as i32)
 }
 
-// A new shift, where it is within the limit.
+// A new shift, if it is within the limit.
 fn small_shift<const D: usize>(k: &Triple) -> Result<Shift<D>, CoverFault>
     requires { HasDimension D k.now }
     ensures shift { IfOk result (λ s. s ≡ k.now) }

@@ -10,7 +10,7 @@ use Rattle.net_report.specs.{Placements.position_text, Placements.positions_text
 pub next_part : (text one two first second : List ℕ) → one ≡ text ++ first → two ≡ one ++ second → two ≡ text ++ (first ++ second)
 next_part text one two first second e f = f ∙ ap (λ (t : List ℕ). t ++ second) e ∙ append_assoc text first second
 
--- the same, where the last one may fail
+-- the same, if the last one may fail
 pub two_parts : {A E : Type 0} (r : Result A E) (text one last first second : List ℕ) → one ≡ text ++ first → OnOk r (last ≡ one ++ second)
     → OnOk r (last ≡ text ++ (first ++ second))
 two_parts (Ok x) text one last first second e f = next_part text one last first second e f
@@ -23,7 +23,7 @@ pub three_parts : {A E : Type 0} (r : Result A E) (text one two last first secon
 three_parts r text one two last first second third e f g =
     two_parts r text two last (first ++ second) third (next_part text one two first second e f) g
 
--- a slice is put last where that does not fail
+-- a slice is put last if that does not fail
 pub slice_part : {A E : Type 0} (r : Result A E) (last longer text : List ℕ) → last ≡ (if is_ok r then longer else text) → OnOk r (last ≡ longer)
 slice_part (Ok x) last longer text e = e
 slice_part (Err x) last longer text e = tt

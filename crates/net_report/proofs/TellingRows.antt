@@ -48,7 +48,7 @@ module _ (X V : Type 0) (text : X → List ℕ) (value : X → V) (Good : X → 
     begins_all : (x : X) (xs : List X) (s : List ℕ) → first_byte (all (x ∷ xs) ++ s) ≡ b
     begins_all x xs s = ap first_byte (append_assoc (text x) (all xs) s) ∙ begins x (all xs ++ s)
 
-    -- up to where another byte begins a line
+    -- up to if another byte begins a line
     up_to : (xs ys : List X) (s t : List ℕ) → AreEach Good xs → AreEach Good ys → first_byte s ≢ b → first_byte t ≢ b → all xs ++ s ≡ all ys ++ t
         → (map value xs ≡ map value ys) × (s ≡ t)
     up_to [] [] s t h k n m e = (refl, e)

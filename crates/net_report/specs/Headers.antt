@@ -11,7 +11,7 @@ use Rattle.net_report.specs.declared.outcome.Size.{Size}
 abbrev pub quoted_name : List ℕ → List ℕ
 quoted_name name = codes " \"" ++ name ++ codes "\""
 
--- the same of the name of a block, where it has one
+-- the same of the name of a block, if it has one
 abbrev pub name_text : Option (List ℕ) → List ℕ
 name_text None = []
 name_text (Some name) = quoted_name name

@@ -1,4 +1,4 @@
--- Kinds of the classes of the nets that are reported with their keys.
+-- Kinds of the classes of nets whose key is reported without other lines: two classes of one kind are carried into each other by a symmetry.
 use Rattle.std.specs.Prelude.{ℕ, List, [], ◌∷◌}
 use Rattle.least_key.specs.AnyNets.{net_view}
 use Rattle.least_key.specs.KeyedNets.{HasKinds}
@@ -6,7 +6,7 @@ use Rattle.net_report.specs.declared.outcome.Outcome.{Outcome}
 use Rattle.net_report.specs.declared.outcome.OutcomeBody.{OutcomeBody}
 use Rattle.net_report.specs.declared.outcome.OutcomeBody.TheVariants.{Keyed}
 
--- where a net is reported with its key alone, these are kinds of its classes
+-- if a net is reported with its key alone, these are kinds of its classes
 abbrev pub AreKindsTold : OutcomeBody → List ℕ → Type 0
 AreKindsTold (Keyed size net) kinds = HasKinds (net_view net) kinds
 AreKindsTold body kinds = Unit {0}

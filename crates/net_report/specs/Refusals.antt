@@ -36,7 +36,7 @@ site_text names dim (Denominator u c) = codes " denominator u=" ++ vertex_text n
 site_text names dim (ArcPart u v s c) = codes " arc" ++ arc_text names dim u v s ++ field_text (codes " c=") c
 site_text names dim (Beyond at) = codes " beyond" ++ place_text at
 
--- a number past its limit, where it is reported
+-- a number past its limit, if it is reported
 abbrev pub value_text : WideSite → ℤ → List ℕ
 value_text (Denominator u c) value = codes " value=" ++ signed_decimal value
 value_text (ArcPart u v s c) value = codes " value=" ++ signed_decimal value
@@ -74,7 +74,7 @@ refusal_details names NoMemory = []
 abbrev pub refused_text : List (List ℕ) → Refusal → List ℕ
 refused_text names refusal = codes "refused " ++ refusal_name refusal ++ refusal_details names refusal ++ codes "\n"
 
--- where there are names, each vertex that is shown has one
+-- if there are names, each vertex that is shown has one
 abbrev pub AreNamed : List (List ℕ) → WideSite → Type 0
 AreNamed names (Denominator u c) = IsNamed names u
 AreNamed names (ArcPart u v s c) = IsNamed names u × IsNamed names v

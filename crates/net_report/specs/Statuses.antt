@@ -29,12 +29,12 @@ abbrev pub ending_of : Bool → Status
 ending_of true = Done
 ending_of false = SomeRefused
 
--- how a run ends where nothing is reported
+-- how a run ends if nothing is reported
 abbrev pub silent_status : Silence → Status
 silent_status silence.TooManyBlocks = TooManyBlocks
 silent_status silence.NoMemory = NoMemory
 
--- where memory runs out nothing is written
+-- if memory runs out nothing is written
 abbrev pub no_memory : Silence
 no_memory = silence.NoMemory
 

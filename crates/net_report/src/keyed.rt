@@ -6,7 +6,7 @@ use least_key::Kinds;
 use std::alloc::Global;
 
 /// The outcomes of blocks or of items under `key`, in their order. Beside each stand kinds of the
-/// classes of its net, where it has one: by them coordination sequences are counted.
+/// classes of its net, if it has one: by them coordination sequences are counted.
 #[derive(Drop)]
 pub struct KeyedOutcomes<'a> {
     pub outcomes: Outcomes<'a>,

@@ -30,7 +30,7 @@ pub fn push_list(text: &mut Vec<u8>, numbers: &[i64]) -> Result<(), NoMemory>
     }
 }
 
-/// The name of a vertex, or its number where there are no names.
+/// The name of a vertex, or its number if there are no names.
 pub fn push_vertex(text: &mut Vec<u8>, names: &Names<'_>, u: u32) -> Result<(), NoMemory>
     requires { IsNamed names.now u }
     ensures { OnOk result (text.new.items ≡ text.old.items ++ vertex_text names.now u) }

@@ -82,7 +82,7 @@ pub enum OutcomeBody<'a> {
 }
 
 impl<'a> OutcomeBody<'a> {
-    /// The refusal with these names, where it is one.
+    /// The refusal with these names, if it is one.
     pub fn refused(size: Size, names: Names<'a>, refusal: Refusal) -> Result<Self, NoMemory>
         ensures told { IfOk result (λ body. body ≡ OutcomeBody.Refused size names.entry refusal) }
         ensures refused { IfOk result (λ body. refusal ≢ Refusal.NoMemory) }

@@ -186,7 +186,7 @@ pub fn push_refused(
     text.extend_from_slice(b"\n")
 }
 
-/// The line of a refusal. A vertex is reported by its name, or by its number where there are no
+/// The line of a refusal. A vertex is reported by its name, or by its number if there are no
 /// names.
 pub fn refused_line(
     alloc: Global,

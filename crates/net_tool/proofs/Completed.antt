@@ -18,7 +18,7 @@ nothing_after (x ∷ xs) = ap (λ (ys : List ℕ). x ∷ ys) (nothing_after xs)
 pub appends_nothing : (written : Option (List ℕ)) → Appends written written []
 appends_nothing written = search (arith, nothing_after)
 
--- Where there is room for each text that is due, nothing breaks off.
+-- If there is room for each text that is due, nothing breaks off.
 
 -- a text that broke off was longer than the sink was sure to take
 pub no_break : (words : List (List ℕ)) (holds : Holds) (before after : Option (List ℕ)) (sure : ℕ) → IsBroken words holds before after sure
@@ -56,7 +56,7 @@ completed None holds status text due within = absurd within
 completed (Some task) holds TooLarge text due within = absurd (not_too_large task holds within due.0)
 completed (Some task) holds status text due within = over task holds status text due within
 
--- where each answer is due
+-- if each answer is due
 pub complete_of : (words : List (List ℕ)) (holds : Holds) (before after : Option (List ℕ)) (status : Status)
     → (IsAnswered status → IsAnswer words holds before after status)
     → AreWithin (task_of words) holds → IsComplete (task_of words) status

@@ -8,7 +8,7 @@ use Rattle.net_report.specs.declared.status.Status.{Status}
 use Rattle.net_report.specs.declared.status.Status.TheVariants.{ReadFault, WriteFault}
 use Rattle.net_tool.specs.Run.{IsDue}
 
--- the bytes of a file, where one is named
+-- the bytes of a file, if one is named
 abbrev pub bytes_of_name : (List ℕ → List ℕ) → Option (List ℕ) → Option (List ℕ)
 bytes_of_name of None = None
 bytes_of_name of (Some name) = Some (of name)

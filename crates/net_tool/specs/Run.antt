@@ -14,7 +14,7 @@ use Rattle.net_report.specs.declared.status.Status.TheVariants.{Usage, ReadFault
 abbrev pub usage_line : List ℕ
 usage_line = codes "usage: net_tool COMMAND [FILE] [--archive PATH] [--name NAME] [--cell ROWS]\n"
 
--- the bytes of a file, where one is named, and no more than are taken
+-- the bytes of a file, if one is named, and no more than are taken
 abbrev pub AreBytesOf : Option (List ℕ) → Holds → Option (List ℕ) → Type 0
 AreBytesOf None holds bytes = bytes ≡ None
 AreBytesOf (Some name) holds None = ⊥
@@ -25,7 +25,7 @@ abbrev pub HasManyBytes : Option (List ℕ) → Holds → Type 0
 HasManyBytes None holds = ⊥
 HasManyBytes (Some name) holds = HasMore holds name most_bytes
 
--- the file, where one is named, has no more bytes than are taken
+-- the file, if one is named, has no more bytes than are taken
 abbrev pub HasFewBytes : Option (List ℕ) → Holds → Type 0
 HasFewBytes name holds = (bytes : Option (List ℕ)) × AreBytesOf name holds bytes
 
@@ -88,7 +88,7 @@ IsSilent NoMemory = Unit {0}
 IsSilent TooManyBlocks = Unit {0}
 IsSilent _ = ⊥
 
--- how a run ends where a file is not read
+-- how a run ends if a file is not read
 abbrev pub status_of : InFault → Status
 status_of unread.ReadFault = ReadFault
 status_of (unread.TooLarge taken) = TooLarge

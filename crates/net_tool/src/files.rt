@@ -8,13 +8,13 @@ use answers::MOST_BYTES;
 use outside::{InFault, Shelf, read_whole};
 use std::alloc::Global;
 
-/// The bytes of a file, where one is named.
+/// The bytes of a file, if one is named.
 pub fn read_named<H: Shelf>(
     alloc: Global,
     shelf: &mut H,
     name: Option<&str>,
 ) -> Result<Option<Vec<u8>>, InFault>
-    // The bytes of the file, where one is named.
+    // The bytes of the file, if one is named.
     ensures bytes { IfOk result (λ bytes.
         AreBytesOf (option_copied name.entry) (H.holds shelf.old) (bytes_in bytes)) }
     // A fault of the host comes by its cause, at this file.
@@ -22,7 +22,7 @@ pub fn read_named<H: Shelf>(
         Rose (H.faults shelf.old) (H.faults shelf.new) }
     ensures fault_at { IsErrOf result InFault.ReadFault →
         FailedAt (option_copied name.entry) (H.last shelf.new) }
-    // It is refused as too large only where it has more bytes than are taken.
+    // It is refused as too large only if it has more bytes than are taken.
     ensures large { (n : ℕ) → IsErrOf result (InFault.TooLarge n) →
         HasManyBytes (option_copied name.entry) (H.holds shelf.old) }
     // The files are as before, and the count of failures does not fall.

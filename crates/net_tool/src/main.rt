@@ -18,7 +18,7 @@ use tool::run;
 /// The exit status where the runtime does not give the arguments though memory did not run out.
 const NO_WORDS: u8 = 20;
 
-// The exit status where the arguments cannot be had.
+// The exit status if the arguments cannot be had.
 fn status_without_words(error: &io::Error) -> u8 {
     match error.kind() {
         io::ErrorKind::OutOfMemory => Status::NoMemory.number(),

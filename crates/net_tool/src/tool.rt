@@ -19,7 +19,7 @@ use net_report::{Answer, Status};
 use outside::{InFault, Shelf, Sink, write_all};
 use std::alloc::Global;
 
-/// What is printed where the arguments have no form.
+/// What is printed if the arguments have no form.
 pub const USAGE: &str =
     "usage: net_tool COMMAND [FILE] [--archive PATH] [--name NAME] [--cell ROWS]\n";
 
@@ -42,7 +42,7 @@ fn finish<W: Sink>(out: &mut W, text: &[u8], status: Status) -> Status
     }
 }
 
-// How a run ends where a file is not read.
+// How a run ends if a file is not read.
 fn status_of(fault: InFault) -> Status
     ensures { result ≡ status_of fault }
 {
@@ -115,7 +115,7 @@ pub fn run<H: Shelf, W: Sink>(alloc: Global, words: &[String], shelf: &mut H, ou
     // ReadFault has a cause: the shelf counted a failure in this run.
     ensures read_fault { result ≡ Status.ReadFault →
         Rose (H.faults shelf.old) (H.faults shelf.new) }
-    // And it was at the file of the task; or at its archive, where the file is not too large.
+    // And it was at the file of the task; or at its archive, if the file is not too large.
     ensures read_fault_at { result ≡ Status.ReadFault →
         FailedAtFile (task_of (texts_of words.now)) (H.holds shelf.old) (H.last shelf.new) }
     // WriteFault has a cause: the sink counted a failure in this run.

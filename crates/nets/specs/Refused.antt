@@ -11,7 +11,7 @@ pub record IsTrueInOrder (G : Graph) (refusal : Refusal) : Type 0 where
   pub in_order : IsInOrder G graph
   pub is_true : IsTrueOf graph refusal
 
--- the same, where memory did not run out
+-- the same, if memory did not run out
 abbrev pub IsRefusedBy : Graph → Refusal → Type 0
 IsRefusedBy G NoMemory = Unit {0}
 IsRefusedBy G refusal = IsTrueInOrder G refusal

@@ -12,7 +12,7 @@ abbrev pub unread : ReadRefusal → TextFault
 unread read.TooManyBlocks = TooManyBlocks
 unread read.NoMemory = NoMemory
 
--- where a graph is refused
+-- if a graph is refused
 abbrev pub IsFrom : Refusal → TextFault → Type 0
 IsFrom given (Refused told) = (told ≡ given) × (given ≢ refusal.NoMemory)
 IsFrom given NoMemory = given ≡ refusal.NoMemory

@@ -21,7 +21,7 @@ abbrev pub first_graph : List BlockView → Option RawView
 first_graph [] = None
 first_graph (block ∷ blocks) = graph_or block.body (first_graph blocks)
 
--- the text has no more blocks than are read, and this is the first graph among them, where there is one
+-- the text has no more blocks than are read, and this is the first graph among them, if there is one
 pub record IsFirstIn (text : List ℕ) (found : Option RawView) : Type 0 where
   pub few : length (blocks_of text) ≤ most_blocks
   pub first : first_graph (blocks_of text) ≡ found

@@ -1,4 +1,4 @@
--- The bytes of a name, where a shelf shows them.
+-- The bytes of a name, if a shelf shows them.
 use Rattle.std.specs.Prelude.{ℕ, ◌+◌, ◌≤◌, ◌<◌, ◌≡◌, List, ◌++◌, length, drop, IfSome, Option}
 
 -- a shelf's bytes, by name

@@ -17,7 +17,7 @@ pub record SinkState : Type 0 where
   -- the failures so far
   pub faults : ℕ
 
--- the bytes that are surely taken: the room left where no call is listed, and none otherwise
+-- the bytes that are surely taken: the room left if no call is listed, and none otherwise
 abbrev pub sure_of : SinkState → ℕ
 sure_of s = (if length s.fails == 0 then s.room else 0)
 

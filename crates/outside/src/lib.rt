@@ -1,4 +1,4 @@
-//! Where bytes come from and where they go: a shelf of named files and a sink, each with a count of
+//! If bytes come from and where they go: a shelf of named files and a sink, each with a count of
 //! its faults. One of each in memory, with failures at listed calls, and one of each by the host;
 //! and a shelf in memory that never fails.
 #![tactic(auto)]

@@ -9,7 +9,7 @@ use std::alloc::Global;
 use std::marker::Model;
 
 /// Bytes in memory, in room that is taken when the sink is made. A write takes the lesser of `step`
-/// and the piece's length, and fails at the listed numbers of its calls, counted from 1, and where
+/// and the piece's length, and fails at the listed numbers of its calls, counted from 1, and if
 /// that does not fit.
 #[derive(Debug, Drop)]
 pub struct MemorySink {

@@ -19,7 +19,7 @@ pub enum ShelfFault {
 
 /// Files by their names, of which a piece is read at a time.
 pub trait Shelf {
-    /// The bytes of each name, where the shelf shows them.
+    /// The bytes of each name, if the shelf shows them.
     ghost holds: { Self → Holds };
 
     /// How often the host failed. The count never falls.
@@ -28,7 +28,7 @@ pub trait Shelf {
     /// What the last read left.
     ghost last: { Self → Last };
 
-    /// Gives some bytes of a name from a place on. A read begins at 0, or goes on where the last
+    /// Gives some bytes of a name from a place on. A read begins at 0, or goes on if the last
     /// one ended.
     fn read(&mut self, name: &str, at: u64, into: &mut [u8]) -> Result<usize, ShelfFault>
         requires room { 0 < length into.old }
@@ -87,7 +87,7 @@ impl From<NoMemory> for InFault {
 /// The most bytes that `read_whole` asks for at once.
 const PIECE: usize = 8192;
 
-/// All the bytes of a name, where they are at most `limit`. It reads until a read gives nothing or
+/// All the bytes of a name, if they are at most `limit`. It reads until a read gives nothing or
 /// `limit + 1` bytes were taken, and never asks for more than these: at most `limit + 2` reads.
 pub fn read_whole<H: Shelf>(
     alloc: Global,
@@ -102,7 +102,7 @@ pub fn read_whole<H: Shelf>(
     ensures within { IfOk result (λ v. length v.items ≤ limit) }
     ensures whole_taken { IfOk result (λ v. H.last shelf.new ≡ Given name.now (length v.items)) }
 
-    // TooLarge comes only where it has more bytes; one more than the limit was taken.
+    // TooLarge comes only if it has more bytes; one more than the limit was taken.
     ensures too_large { (n : ℕ) → IsErrOf result (InFault.TooLarge n) →
         (n ≡ limit + 1) × HasMore (H.holds shelf.old) name.now limit }
     ensures too_large_taken { (n : ℕ) → IsErrOf result (InFault.TooLarge n) →

@@ -12,9 +12,9 @@ pub enum SinkFault {
     Failed,
 }
 
-/// Where bytes go, a piece at a time.
+/// If bytes go, a piece at a time.
 pub trait Sink {
-    /// The bytes written so far, where the sink shows them.
+    /// The bytes written so far, if the sink shows them.
     ghost written: { Self → Option (List ℕ) };
 
     /// How often the host failed. The count never falls.

@@ -22,7 +22,7 @@ pub record BareIsIso : Type 0 where
   pub there : (G H : Graph) → IsGraph G → IsGraph H → IsStable G → IsStable H → (e : BareIso G H) → (i : Iso G H) × (i.there ≡ e.map)
   pub back : (G H : Graph) → (i : Iso G H) → (e : BareIso G H) × (e.map ≡ i.there)
 
--- where one of two nets is stable, a bijection that joins images if and only if the vertices are joined is an isomorphism, with its period;
+-- if one of two nets is stable, a bijection that joins images if and only if the vertices are joined is an isomorphism, with its period;
 -- and then the other net is stable too
 pub record StableNetsAreTold : Type 0 where
   pub onto : (G H : Graph) → IsGraph G → IsGraph H → IsStable H → (e : BareIso G H) → (i : Iso G H) × (i.there ≡ e.map)

@@ -7,7 +7,7 @@ use Rattle.periodic_net.specs.Graph.{Graph, Arc, IsArc, IsQuotientVertex, Vertex
 use Rattle.periodic_net.specs.Maps.{IsInBox}
 use Rattle.periodic_net.specs.Placement.{Placement, position, arc_vector}
 
--- x stands where w would stand after the move by r
+-- x stands if w would stand after the move by r
 abbrev pub StandsAt : Placement → Vector → Vertex → Vertex → Type 0
 StandsAt p r w x = position p x ≡ plus (position p w) r
 

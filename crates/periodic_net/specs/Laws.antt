@@ -44,7 +44,7 @@ abbrev pub NormalPlacementExists : Type 0
 NormalPlacementExists = (G : Graph) → IsGraph G → (p : Placement) → IsBarycentric G p → (q : Placement) × IsNormalPlacement G q
 
 -- a map with a period m and shifts B is affine on positions: m·D·q(map w) - D'·(the sum of p(w)_i·B_i) is one vector
--- for all vertices w, where p is in units of 1/D and q in units of 1/D'
+-- for all vertices w, if p is in units of 1/D and q in units of 1/D'
 abbrev pub IsAffineOn : (G H : Graph) → Placement → Placement → (Vertex → Vertex) → Type 0
 IsAffineOn G H p q map = (m : ℕ) (b : Base) → IsPeriodic G H map m b → (w x : Vertex) → IsVertex G w → IsVertex G x
     → minus (times (pos m *ℤ pos p.denominator) (position q (map w))) (times (pos q.denominator) (base_sum b (position p w)))
@@ -97,7 +97,7 @@ abbrev pub MaximumPrinciple : Type 0
 MaximumPrinciple = (G : Graph) → IsGraph G → IsConnected G → (m : ℕ) → 1 ≤ m → (F : Vertex → ℤ) → Repeats G m F → IsNetHarmonic G F
     → (w x : Vertex) → IsVertex G w → IsVertex G x → F w ≡ F x
 
--- a function that is bounded above needs no period: in a connected net it is constant where it is at each vertex the mean over its neighbours
+-- a function that is bounded above needs no period: in a connected net it is constant if it is at each vertex the mean over its neighbours
 abbrev pub BoundedHarmonicIsConstant : Type 0
 BoundedHarmonicIsConstant = (G : Graph) → IsGraph G → IsConnected G → (F : Vertex → ℤ) (most : ℤ) → ((w : Vertex) → IsVertex G w → F w ≤ℤ most)
     → IsNetHarmonic G F → (w x : Vertex) → IsVertex G w → IsVertex G x → F w ≡ F x

@@ -1,4 +1,4 @@
--- Groups with a total order: the fractions are one, and so are the real numbers, where it is taken that of two the greater is known.
+-- Groups with a total order: the fractions are one, and so are the real numbers, if it is taken that of two the greater is known.
 use Rattle.std.specs.Prelude.{◌≡◌, ◌⊎◌, ℕ, zero, suc, ℤ, pos, negsuc, List, [], ◌∷◌}
 use Rattle.integers.specs.Vectors.{Vector}
 

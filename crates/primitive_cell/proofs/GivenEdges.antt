@@ -49,7 +49,7 @@ module _ (L : Vector → Type 0) (d : ℕ) (rows : List Vector) (s : IsStaircase
   leads_second : pos 0 <ℤ (row rows 1).y
   leads_second = elim dim [ inl e ↦ (s.each 1 (omega arith)).may.leads | inr e ↦ (s.each 1 (omega arith)).may.leads ]
 
-  -- the parts before them are 0, where there are such rows
+  -- the parts before them are 0, if there are such rows
   second_starts : (row rows 1).x ≡ pos 0
   second_starts = elim dim [ inl e ↦ (s.each 1 (omega arith)).may.before 0 (omega arith) | inr e ↦ (s.each 1 (omega arith)).may.before 0 (omega arith) ]
 

@@ -6,7 +6,7 @@ ghost use Rattle.primitive_cell.specs.Places.{AreInOrder, AreFirstPlaces};
 use crate::NoMemory;
 use std::alloc::Global;
 
-/// The first place of each number, where the numbers are numbered as they appear. Places are
+/// The first place of each number, if the numbers are numbered as they appear. Places are
 /// counted from 1.
 pub fn first_places(alloc: Global, numbers: &[u32]) -> Result<Vec<u32>, NoMemory>
     requires in_order { AreInOrder numbers.now }

@@ -38,7 +38,7 @@ unplaced P refusal n h = grind arith
 told : (refusal : Refusal) → Refused refusal ≢ no_memory → refusal ≢ NoMemory
 told refusal n e = n (ap Refused e)
 
--- where the graph is placed no fault is true of it
+-- if the graph is placed no fault is true of it
 faultless : (n : KeyedNet) (p : PlacedNet) (c : NetClasses) (fault : PrimitiveFault) → IsGraph n.cell.graph → IsPrimitiveNet n p c
     → IsFaultOf n.cell.graph fault → fault ≡ no_memory
 faultless n p c (WideShift u v s) g h k =

@@ -1,4 +1,4 @@
-// What calls answer with ample memory, where no text of the program reaches it: values that were
+// What calls answer with ample memory, if no text of the program reaches it: values that were
 // worked out by hand.
 mod components;
 mod devices;

@@ -1,4 +1,4 @@
--- Positions are within the limits where all arcs are, and what is computed of them fits 128 bits.
+-- Positions are within the limits if all arcs are, and what is computed of them fits 128 bits.
 use Rattle.std.proofs.Common.{zero-add, ◌≡◌, ◌⊎◌, inl, inr, ℕ, zero, suc, arith, ◌+◌, ◌-◌, ◌*◌, ◌<◌, ◌≤◌, Bool, true, false, List, [], ◌∷◌, ap, sym, refl}
 use Rattle.std.proofs.Common.{subst, ◌∙◌, ⊎_elim, ◌^◌, ℤ, pos, ◌+ℤ◌, ◌-ℤ◌, ◌*ℤ◌}
 use Rattle.std.proofs.lemmas.Bool.{cases_Bool, cases_lt, leb-true, le-leb}
@@ -14,8 +14,8 @@ use Rattle.periodic_net.specs.Limits.{most_vertices, most_shift, most_units, IsS
 use Rattle.periodic_net.proofs.CallerLemmas.{arc_inside}
 use Rattle.quotient_graph.{specs.PlacedNets.most_position, proofs.Stars.arc_within}
 
--- What grows by at most B along each arc is at most B times the number of the other vertices everywhere, where it is 0 at vertex 1.
--- The vertices with a value up to k·B are at least k + 1, or all: where one is missing, the first arc of a walk that leaves them brings one more.
+-- What grows by at most B along each arc is at most B times the number of the other vertices everywhere, if it is 0 at vertex 1.
+-- The vertices with a value up to k·B are at least k + 1, or all: if one is missing, the first arc of a walk that leaves them brings one more.
 
 -- how many of the numbers below n pass the test
 count : (ℕ → Bool) → ℕ → ℕ
@@ -48,7 +48,7 @@ some_missed f (suc n) = ⊎_elim
     (λ all. ⊎_elim (λ (e : f n ≡ true). inr (λ j l. ⊎_elim (λ (h : j < n). all j h) (λ h. subst (λ x. f x ≡ true) (sym h) e) (below_or j n l)))
     (λ e. inl (n, omega arith, e)) (cases_Bool (f n))) (some_missed f n)
 
--- where all n are counted, all pass
+-- if all n are counted, all pass
 all_counted : (f : ℕ → Bool) (n : ℕ) → n ≤ count f n → (j : ℕ) → j < n → f j ≡ true
 all_counted f zero h j l = absurd (omega arith)
 all_counted f (suc n) h j l = ⊎_elim

@@ -11,7 +11,7 @@ use std::marker::Model;
 use vecdim::Vect;
 
 /// The classes of a connected stable net, its class graph, and its translations with parts from 0
-/// to D0 - 1. Two vertices share a class where a translation moves one over the first onto one over
+/// to D0 - 1. Two vertices share a class if a translation moves one over the first onto one over
 /// the second; classes are numbered from 1, by their least members. Contracts see the graph, the
 /// class of each vertex, the class graph, and the translations.
 #[derive(Debug, Drop)]

@@ -3,7 +3,7 @@ use lists::Items;
 use vecdim::Triple;
 
 /// A colouring of the vertices of a net of dimension `dim`: the vertex over `u` in the cell `t` has
-/// the colour `h(u) + c·t`, taken modulo `q` where `q` is not 0. `h` has an entry for each vertex
+/// the colour `h(u) + c·t`, taken modulo `q` if `q` is not 0. `h` has an entry for each vertex
 /// of the quotient graph.
 #[derive(Debug, Drop)]
 pub struct Split {

@@ -103,7 +103,7 @@ over_in [] u e k l f o = absurd (omega (arith, l))
 over_in (y ∷ es) u e zero l f o = over_by y es u (ℕ_discrete y.over u) (λ n. absurd (n (ap (λ (z : End). z.over) f ∙ o)))
 over_in (y ∷ es) u e (suc k) l f o = over_by y es u (ℕ_discrete y.over u) (λ n. over_in es u e k (omega (arith, l)) f o)
 
--- where the list has one, it is one of the list and over u
+-- if the list has one, it is one of the list and over u
 pub is_over : (es : List End) (u : ℕ) → HasEnd es u → Contains es (end_over es u) × ((end_over es u).over ≡ u)
 is_over es u h = let c = h.is_in in over_in es u h.end c.0 c.1 c.2 h.over
 
@@ -164,7 +164,7 @@ first_more edges es ts n e t count l is shift h k a d b = grind (arith, last_pla
 pub edge_from : (G : Graph) → IsGraph G → IsSmall G → (e : Arc) → Contains G.edges e → IsArcFrom G e.from e
 edge_from G g s e c = grind (arith, contains_from_in, edge_in, is_in, arc_inside)
 
--- Where the shifts are full, some is not 0, some is not on a line, and in dimension 3 some is not in a plane.
+-- If the shifts are full, some is not 0, some is not on a line, and in dimension 3 some is not in a plane.
 
 abbrev one : Vector
 one = vector (pos 1) (pos 0) (pos 0)

@@ -27,7 +27,7 @@ dividing (negsuc m) z n =
     let d = divided (suc m) (omega arith) z in
     record { r = d.0; k = neg_ℤ d.1; below = d.2; is = turned_divisor (pos d.0) z (negsuc m) d.1 d.3 }
 
--- the difference of quotients, where the remainders are below the divisor
+-- the difference of quotients, if the remainders are below the divisor
 same_quotient : (m : ℤ) (r s : ℕ) (d : ℤ) → r < unsigned_abs m → s < unsigned_abs m → pos r ≡ pos s +ℤ m *ℤ d → d ≡ pos 0
 same_quotient m r s (pos zero) h k e = refl
 same_quotient (pos m) r s (pos (suc n)) h k e = absurd (let p = product_is (pos m) (pos (suc n)) in omega (arith, ints))
@@ -73,11 +73,11 @@ residue S h w =
       z = brought_two w.z (S.second_z *ℤ y.k) (S.first_z *ℤ x.k) (pos z.r +ℤ S.third_z *ℤ z.k) z.is;
     }
 
--- equal sums, with the terms of the quotients on one side, where the later terms are equal
+-- equal sums, with the terms of the quotients on one side, if the later terms are equal
 second_side : (w q q' e b k k' l l' : ℤ) → k' -ℤ k ≡ pos 0 → w ≡ q +ℤ e *ℤ l +ℤ b *ℤ k → w ≡ q' +ℤ e *ℤ l' +ℤ b *ℤ k' → q ≡ q' +ℤ e *ℤ (l' -ℤ l)
 second_side w q q' e b k k' l l' h f g = let u = ap (λ (t : ℤ). b *ℤ t) h in simp ring (omega (arith, linear, f, g, simp ring at u))
 
--- and where two later terms are
+-- and if two later terms are
 third_side : (w s s' i n n' f l l' c k k' : ℤ) → k' -ℤ k ≡ pos 0 → l' -ℤ l ≡ pos 0 → w ≡ s +ℤ i *ℤ n +ℤ f *ℤ l +ℤ c *ℤ k
     → w ≡ s' +ℤ i *ℤ n' +ℤ f *ℤ l' +ℤ c *ℤ k'
     → s ≡ s' +ℤ i *ℤ (n' -ℤ n)

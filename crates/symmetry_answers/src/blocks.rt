@@ -13,7 +13,7 @@ use cgd_read::Block;
 use net_report::push_outcome;
 use std::alloc::Global;
 
-// What is reported where `key` reports this.
+// What is reported if `key` reports this.
 fn symmetry_body<'a>(
     alloc: Global,
     body: OutcomeBody<'a>,

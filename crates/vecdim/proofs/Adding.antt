@@ -1,4 +1,4 @@
--- A lattice with vectors added is the least one that has them. Where all pivots are 1 it has all vectors.
+-- A lattice with vectors added is the least one that has them. If all pivots are 1 it has all vectors.
 use Rattle.std.proofs.Common.{◌≡◌, ℕ, ℤ, pos, ◌+ℤ◌, ◌*ℤ◌, List, [], ◌∷◌, refl, sym, ap, subst, ◌∙◌, arith, inl, inr, ◌*◌, ◌≤◌, ◌<◌, ◌^◌, ◌<ℤ◌, ◌-ℤ◌}
 use Rattle.std.{proofs.Common.unsigned_abs, proofs.Common.FitsSigned, proofs.lemmas.Int.ints, specs.Int.w128}
 use Rattle.integers.specs.Vectors.{Vector, zero_vector, HasDimension, plus, times, combination}
@@ -18,7 +18,7 @@ pub combination_one : (ks : List ℤ) (v : Vector) → (k : ℤ) × (combination
 combination_one [] v = (pos 0, vector_equal (omega (arith, ints)) (omega (arith, ints)) (omega (arith, ints)))
 combination_one (k ∷ ks) v = (k, ap (λ (w : Vector). plus (times k v) w) (combination_nothing ks) ∙ plus_zero (times k v))
 
--- a flat sum has a flat first term, where the second is flat
+-- a flat sum has a flat first term, if the second is flat
 flat_term : (w u k v : ℤ) → w ≡ u +ℤ k *ℤ v → w ≡ pos 0 → v ≡ pos 0 → u ≡ pos 0
 flat_term w u k v e p q = let f : w ≡ u +ℤ k *ℤ pos 0 = e ∙ ap (λ (t : ℤ). u +ℤ k *ℤ t) q in omega (arith, ints, f, p)
 
@@ -144,7 +144,7 @@ last_two S r = (λ j. own S.second_y r.second_y j *ℤ own S.third_z r.third_z j
 pub size_is : (S : Stairs) → IsReducedStair S → S.first_x *ℤ (S.second_y *ℤ S.third_z) ≡ pos (size_of S)
 size_is S r = (λ j. own S.first_x r.first_x j *ℤ last_two S r j)
 
--- it fits where it is small
+-- it fits if it is small
 pub size_fits : (S : Stairs) → IsReducedStair S → size_of S < 2 ^ 127 → FitsSigned w128 (S.first_x *ℤ (S.second_y *ℤ S.third_z))
 size_fits S r h = search (arith, size_is, fits_from_bound)
 

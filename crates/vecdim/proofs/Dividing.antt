@@ -43,7 +43,7 @@ opposite_back g size v u w e o d =
     vector_equal (omega (arith, linear)) (omega (arith, linear)) (omega (arith, linear)) ∙ ap opposite (sym o ∙ d ∙ ap (λ (k : ℤ). times k w) e)
     ∙ vector_equal (simp ring (omega (arith, linear))) (simp ring (omega (arith, linear))) (simp ring (omega (arith, linear)))
 
--- vectors have small products where their bounds have
+-- vectors have small products if their bounds have
 pub small_products : (m n : ℕ) → m * n ≤ 2 ^ 61 → (v w : Vector) → IsWithin m v → IsWithin n w → HaveSmallProducts v w
 small_products m n b v w h k = search (arith, le_trans, bounded_product)
 

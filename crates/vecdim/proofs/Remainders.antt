@@ -85,7 +85,7 @@ apart_z : (k k' l l' n n' a b c v r : ℤ) → v -ℤ r ≡ k *ℤ a +ℤ l *ℤ
     → r -ℤ pos 0 ≡ (k' -ℤ k) *ℤ a +ℤ (l' -ℤ l) *ℤ b +ℤ (n' -ℤ n) *ℤ c
 apart_z k k' l l' n n' a b c v r e f = simp ring (omega (arith, linear, e, f))
 
--- where a vector is a member, so is what it differs from by a member
+-- if a vector is a member, so is what it differs from by a member
 rest_member : {S : Stairs} (v r : Vector) → InStairs S (minus v r) → InStairs S v → InStairs S (minus r zero_vector)
 rest_member {S} v r m t = record {
   k = t.k -ℤ m.k;

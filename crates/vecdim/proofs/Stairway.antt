@@ -76,11 +76,11 @@ no_first {S} w r m h = zero_factor m.k S.first_x (sym h ∙ m.x) r.first_x
 y_at_zero : (k l b e y : ℤ) → k ≡ pos 0 → y ≡ k *ℤ b +ℤ l *ℤ e → y ≡ l *ℤ e
 y_at_zero k l b e y h q = q ∙ ap (λ t. t *ℤ b +ℤ l *ℤ e) h ∙ simp ring (omega (arith, linear))
 
--- its third part, where the second coefficient is 1
+-- its third part, if the second coefficient is 1
 z_at_second : (k l n c f i z : ℤ) → k ≡ pos 0 → l ≡ pos 1 → z ≡ k *ℤ c +ℤ l *ℤ f +ℤ n *ℤ i → z ≡ f +ℤ n *ℤ i
 z_at_second k l n c f i z h g q = q ∙ ap (λ t. t *ℤ c +ℤ l *ℤ f +ℤ n *ℤ i) h ∙ ap (λ t. pos 0 *ℤ c +ℤ t *ℤ f +ℤ n *ℤ i) g ∙ simp ring (omega (arith, linear))
 
--- its third part, where the second coefficient is 0
+-- its third part, if the second coefficient is 0
 z_at_third : (k l n c f i z : ℤ) → k ≡ pos 0 → l ≡ pos 0 → z ≡ k *ℤ c +ℤ l *ℤ f +ℤ n *ℤ i → z ≡ n *ℤ i
 z_at_third k l n c f i z h g q = q ∙ ap (λ t. t *ℤ c +ℤ l *ℤ f +ℤ n *ℤ i) h ∙ ap (λ t. pos 0 *ℤ c +ℤ t *ℤ f +ℤ n *ℤ i) g ∙ simp ring (omega (arith, linear))
 
@@ -157,7 +157,7 @@ pub coefficients_dimension : (d : ℕ) (S : Stairs) (v : Vector) → HasStairSha
     → HasDimension d (vector m.k m.l m.n)
 coefficients_dimension d S v s dim m e = let f = s.flat e in no_third v.z m.k m.l m.n S.first_z S.second_z S.third_z (dim e) f.first_z f.second_z f.third_z m.z
 
--- a part, where the rest is 0
+-- a part, if the rest is 0
 exact_x : (v r a q : ℤ) → r ≡ pos 0 → v -ℤ r ≡ q *ℤ a → v ≡ q *ℤ a
 exact_x v r a q h e = omega (arith, linear, h, e)
 
@@ -240,7 +240,7 @@ equal_not_greater e = cc
 at_most_nothing : IsAtMost [] []
 at_most_nothing = equal_not_greater
 
--- where the first numbers are equal, the others compare
+-- if the first numbers are equal, the others compare
 at_most_after : (a x : ℤ) (bs ys : List ℤ) → a ≡ x → IsAtMost bs ys → IsAtMost (a ∷ bs) (x ∷ ys)
 at_most_after a x bs ys e h g = h (ap (λ (o : Ordering). ordering_then o (slice_cmp int_cmp bs ys)) (int_cmp_is a x Equal e) ∙ g)
 

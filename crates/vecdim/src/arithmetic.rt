@@ -68,7 +68,7 @@ pub(crate) fn multiple(a: i128, b: i128) -> i128
     a * b
 }
 
-// a·b, where the product has room.
+// a·b, if the product has room.
 pub(crate) fn exact_product(a: i128, b: i128) -> i128
     requires { unsigned_abs (a *ℤ b) ≤ 2 ^ 126 }
     ensures { result ≡ a *ℤ b }

@@ -14,11 +14,11 @@ place_after m r part = unsigned_abs (int_rem_euclid (pos r +ℤ part) (pos m))
 abbrev pub cells_passed : ℕ → ℕ → ℤ → ℤ
 cells_passed m r part = int_div_euclid (pos r +ℤ part) (pos m)
 
--- vertex u at place r, where each vertex has m places
+-- vertex u at place r, if each vertex has m places
 abbrev pub vertex_at : ℕ → ℕ → ℕ → ℕ
 vertex_at m u r = (u - 1) * m + r + 1
 
--- an edge of the base net from place r, in a cell of m base cells along the first axis, where the second axis is k times the first further
+-- an edge of the base net from place r, in a cell of m base cells along the first axis, if the second axis is k times the first further
 abbrev pub edge_at : ℕ → ℕ → Edge → ℕ → Edge
 edge_at m k e r = record {
   u = vertex_at m e.u r;

@@ -28,7 +28,7 @@ fn push_part(text: &mut Vec<u8>, part: i32) -> Result<(), NoMemory>
     text.extend_from_slice(buffer.format(part).as_bytes())
 }
 
-// The third part, where the net is not plane.
+// The third part, if the net is not plane.
 #[tactic(auto, unfolding(crate::specs::Workload::third_text))]
 fn push_third(text: &mut Vec<u8>, dimension: u32, part: i32) -> Result<(), NoMemory>
     ensures { OnOk result (text.new.items ≡ text.old.items ++ third_text dimension part) }

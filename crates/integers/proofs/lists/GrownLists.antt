@@ -133,7 +133,7 @@ module _ {X : Type 0} where
       different y i (inl s) = absent (subst (IsIn found) (sym s) i)
       different y i (inr j) = j
 
--- what grows by these things, where equality is decided
+-- what grows by these things, if equality is decided
 pub record Grown {X : Type 0} (things found : List X) : Type 0 where
   pub found' : List X
   pub next : List X

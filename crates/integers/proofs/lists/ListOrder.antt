@@ -94,7 +94,7 @@ level xs = search (arith, not_below_itself, at_most_itself)
 pub below_after : (xs zs ws : List ℤ) → IsBelow zs ws → IsBelow (xs ++ zs) (xs ++ ws)
 below_after xs zs ws h = front_then xs xs zs ws refl ∙ (λ i. ordering_then (level xs i) (slice_cmp int_cmp zs ws)) ∙ h
 
--- the lower of two orders that are not equal, where the other is not lower
+-- the lower of two orders that are not equal, if the other is not lower
 less_by : (o p : Ordering) → o ≡ ordering_reverse p → (o ≢ Equal) → is_lt p ≡ false → o ≡ Less
 less_by o p h k l = grind arith
 

@@ -295,7 +295,7 @@ in_take (suc n) [] x i = absurd i
 in_take (suc n) (y ∷ ys) x (inl e) = inl e
 in_take (suc n) (y ∷ ys) x (inr i) = inr (in_take n ys x i)
 
--- they have no repetition where the list has none
+-- they have no repetition if the list has none
 pub take_apart : {X : Type 0} (n : ℕ) (xs : List X) → AreApart xs → AreApart (take n xs)
 take_apart zero xs h = tt
 take_apart (suc n) [] h = tt
@@ -347,7 +347,7 @@ pub record Chosen {X Y : Type 0} (g : X → Y) (xs : List X) (ys : List Y) : Typ
   pub images : map g list ≡ ys
   pub inside : (x : X) → IsIn list x → IsIn xs x
 
--- where each of them is an image there is one
+-- if each of them is an image there is one
 pub chosen : {X Y : Type 0} (g : X → Y) (xs : List X) (ys : List Y) → ((y : Y) → IsIn ys y → (x : X) × IsIn xs x × (g x ≡ y)) → Chosen g xs ys
 chosen g xs [] h = record { list = []; images = refl; inside = λ x i. absurd i }
 chosen {X} {Y} g xs (y ∷ ys) h = by (h y (inl refl)) (chosen g xs ys (λ z i. h z (inr i)))

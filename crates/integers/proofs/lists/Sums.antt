@@ -56,7 +56,7 @@ pub total_falls : {X : Type 0} (g : X → ℤ) (xs : List X) → ((x : X) → Is
 total_falls g [] h = omega (arith, ints)
 total_falls g (x ∷ xs) h = let a = h x (inl refl) in let b = total_falls g xs (λ y i. h y (inr i)) in omega (arith, ints)
 
--- where no term is above 0 and the sum is 0, each term is 0
+-- if no term is above 0 and the sum is 0, each term is 0
 pub each_zero : {X : Type 0} (g : X → ℤ) (xs : List X) → ((x : X) → IsIn xs x → g x ≤ℤ pos 0) → total g xs ≡ pos 0 → (x : X) → IsIn xs x → g x ≡ pos 0
 each_zero g [] h e x i = absurd i
 each_zero g (y ∷ ys) h e x (inl k) =
@@ -66,11 +66,11 @@ each_zero g (y ∷ ys) h e x (inr i) =
     let a = h y (inl refl) in let b = total_falls g ys (λ z k. h z (inr k)) in
     let z : total g ys ≡ pos 0 = omega (arith, ints) in each_zero g ys (λ w k. h w (inr k)) z x i
 
--- a - b is 0 or less where a is at most b
+-- a - b is 0 or less if a is at most b
 pub at_most_zero : (a b : ℤ) → a ≤ℤ b → (a -ℤ b) ≤ℤ pos 0
 at_most_zero a b h = omega (arith, ints)
 
--- a = b where a - b = 0
+-- a = b if a - b = 0
 pub same_from_zero : (a b : ℤ) → a -ℤ b ≡ pos 0 → a ≡ b
 same_from_zero a b h = omega (arith, ints)
 

@@ -7,7 +7,7 @@ use Rattle.integers.{specs.Vectors.Vector, specs.Vectors.zero_vector, specs.Vect
 pub at_or_below : (P : ℕ → Type 0) (v n : ℕ) → v ≤ suc n → (v ≤ n → P v) → P (suc n) → P v
 at_or_below P v n b below here = grind arith
 
--- a place from 1 to n + 1 where f is greatest
+-- a place from 1 to n + 1 if f is greatest
 pub greatest_at : (f : ℕ → ℤ) (n : ℕ) → (u : ℕ) × (1 ≤ u) × (u ≤ suc n) × ((v : ℕ) → 1 ≤ v → v ≤ suc n → f v ≤ℤ f u)
 greatest_at f zero = (1, omega arith, omega arith, λ v a b. let e : v ≡ 1 = omega arith in subst (λ (k : ℕ). f k ≤ℤ f 1) (sym e) (omega (arith, ints)))
 greatest_at f (suc n) = more (greatest_at f n)

@@ -9,7 +9,7 @@ use Rattle.integers.specs.Divisors.{IsGreatestDivisor, IsLeastMultiple, DividesI
 use Rattle.integers.specs.Vectors.{Vector, times, vector, DividesVector}
 use Rattle.integers.proofs.{lists.Members.is_in, lists.Members.contains_from_in, lists.Tables.table, vectors.Laws.numbers_times}
 
--- g = s·a + t·b, where a = g·k and b = g·l: the greatest common divisor of a and b
+-- g = s·a + t·b, if a = g·k and b = g·l: the greatest common divisor of a and b
 pub record Bezout (a b : ℕ) : Type 0 where
   pub g : ℕ
   pub k : ℕ
@@ -56,11 +56,11 @@ bezout_within (suc n) a (suc b) h = more (bezout_within n (suc b) (a % suc b) (o
 pub bezout : (a b : ℕ) → Bezout a b
 bezout a b = bezout_within b a b (omega arith)
 
--- where g = s·(g·k) + t·(g·l), s·k + t·l = 1
+-- if g = s·(g·k) + t·(g·l), s·k + t·l = 1
 pub coprime_combination : (g k l s t : ℤ) → g ≢ pos 0 → g ≡ s *ℤ (g *ℤ k) +ℤ t *ℤ (g *ℤ l) → s *ℤ k +ℤ t *ℤ l ≡ pos 1
 coprime_combination g k l s t n e = cancel_factor g (s *ℤ k +ℤ t *ℤ l) (pos 1) n (let f = e in simp ring (omega (arith, ints, simp ring at f)))
 
--- Euclid: where s·k + t·l = 1 and k·y = l·x, k divides x
+-- Euclid: if s·k + t·l = 1 and k·y = l·x, k divides x
 pub coprime_multiple : (k l s t x y : ℤ) → s *ℤ k +ℤ t *ℤ l ≡ pos 1 → k *ℤ y ≡ l *ℤ x → x ≡ k *ℤ (s *ℤ x +ℤ t *ℤ y)
 coprime_multiple k l s t x y e f =
     let a = ap (λ (r : ℤ). r *ℤ x) e in let b = ap (λ (r : ℤ). t *ℤ r) f in
@@ -74,7 +74,7 @@ cancel_common g k l x y n e = cancel_factor g (k *ℤ y) (l *ℤ x) n (sym (prod
 abbrev pub IsMultiple : ℕ → ℕ → Type 0
 IsMultiple j k = (l : ℕ) × (k ≡ j * l)
 
--- the quotient, where j divides k
+-- the quotient, if j divides k
 pub quotient_of : (j k : ℕ) → j ∣ k → IsMultiple j k
 quotient_of j k h = search (arith, eq-zero_of_zero-dvd, mod-eq-zero_of_dvd)
 
@@ -120,7 +120,7 @@ IsBound R xs c = ((x : ℕ) → Contains xs x → R c x) × ((d : ℕ) → ((x :
 abbrev pub IsBoundOfTwo : (ℕ → ℕ → Type 0) → ℕ → ℕ → ℕ → Type 0
 IsBoundOfTwo R a b c = R c a × R c b × ((d : ℕ) → R d a → R d b → R d c)
 
--- where any two numbers have such a number, and all are in the relation to e, any list has one
+-- if any two numbers have such a number, and all are in the relation to e, any list has one
 bound_of_list : (R : ℕ → ℕ → Type 0) → ((a b c : ℕ) → R a b → R b c → R a c) → ((a b : ℕ) → (c : ℕ) × IsBoundOfTwo R a b c) → (e : ℕ) → ((d : ℕ) → R d e)
     → (xs : List ℕ) → (c : ℕ) × IsBound R xs c
 bound_of_list R chain two e all [] = (e, (λ x c. absurd (omega (arith, c.1)), λ d h. all d))
@@ -153,7 +153,7 @@ greatest_divisor xs = by (bound_of_list (λ d x. d ∣ x) (λ a b c p q. dvd_tra
 pub greatest_divisor_unique : (xs : List ℕ) (g h : ℕ) → IsGreatestDivisor xs g → IsGreatestDivisor xs h → g ≡ h
 greatest_divisor_unique xs g h a b = dvd_antisymm (b.greatest g a.divides) (a.greatest h b.divides)
 
--- n is a multiple of g·(k·l) where it is one of g·k and of g·l, and k and l are coprime
+-- n is a multiple of g·(k·l) if it is one of g·k and of g·l, and k and l are coprime
 common_multiple : (g k l n x y : ℕ) (s t : ℤ) → 1 ≤ g → pos g ≡ s *ℤ (pos g *ℤ pos k) +ℤ t *ℤ (pos g *ℤ pos l) → n ≡ (g * k) * x → n ≡ (g * l) * y
     → IsMultiple (g * (k * l)) n
 common_multiple zero k l n x y s t h e f f' = absurd (omega arith)
@@ -214,7 +214,7 @@ all_table j f (suc n) h = (h 0 (omega arith), all_table j (λ i. f (suc i)) n (�
 product_one : (j l : ℕ) → 1 ≡ j * l → j ≡ 1
 product_one j l h = grind arith
 
--- where g·j divides g, j is 1
+-- if g·j divides g, j is 1
 pub only_one : (g j l : ℕ) → 1 ≤ g → g ≡ (g * j) * l → j ≡ 1
 only_one zero j l h e = absurd (omega arith)
 only_one (suc g) j l h e = product_one j l (eq_of_mul-eq-mul_left (suc g) (omega arith) 1 (j * l) (one (suc g) ∙ e ∙ mul_assoc (suc g) j l))
@@ -303,7 +303,7 @@ common d (v ∷ vs) = more (common d vs)
               (w.0.z, ap (λ (t : Vector). t.z) w.1);
         }
 
--- g·d divides g·k where d divides k
+-- g·d divides g·k if d divides k
 pub multiple_divides : (g d k : ℕ) → d ∣ k → g * d ∣ g * k
 multiple_divides g d k p = let m = quotient_of d k p in divides_multiple (g * d) (g * k) (m.0, ap (λ t. g * t) m.1 ∙ sym (mul_assoc g d m.0))
 

@@ -77,7 +77,7 @@ pub ruleset linear = (same_out, same_in, sum_is_lem, neg_is, lt_out, le_out, bel
 other_factor_zero_by : (a b : ℤ) → up a * up b + down a * down b ≡ up a * down b + down a * up b → a *ℤ b ≡ pos 0 → a ≢ pos 0 → b ≡ pos 0
 other_factor_zero_by a b k l p = search (arith, eq_of_mul-eq-mul_left)
 
--- where a product is 0 and a factor is not, the other is
+-- if a product is 0 and a factor is not, the other is
 pub other_factor_zero : (a b : ℤ) → a *ℤ b ≡ pos 0 → a ≢ pos 0 → b ≡ pos 0
 other_factor_zero a b h n = let p = product_is a b in let q = same_out (a *ℤ b) (pos 0) h in other_factor_zero_by a b (omega arith) h n
 
@@ -95,6 +95,6 @@ positive_not_zero n h e = omega (arith, ints)
 pub zero_or_not : (z : ℤ) → (z ≡ pos 0) ⊎ (z ≢ pos 0)
 zero_or_not z = grind arith
 
--- a product is 0 only where a factor is
+-- a product is 0 only if a factor is
 pub factor_zero : (a b : ℤ) → a *ℤ b ≡ pos 0 → (a ≡ pos 0) ⊎ (b ≡ pos 0)
 factor_zero a b e = search (arith, zero_or_not, other_factor_zero)

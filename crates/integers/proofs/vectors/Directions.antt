@@ -35,7 +35,7 @@ pub record Start (v : Vector) : Type 0 where
 pub start_of : (v : Vector) → StartsPositive v → Start v
 start_of v h = grind arith
 
--- a part of the opposite of a vector that does not start positive is positive, where it is the first other than 0
+-- a part of the opposite of a vector that does not start positive is positive, if it is the first other than 0
 opposite_part : (x : ℤ) → x <ℤ pos 0 → pos 0 <ℤ neg_ℤ x
 opposite_part x h = omega (arith, ints, h)
 

@@ -36,7 +36,7 @@ module _ (a b c d e f g h i : ℤ) where
       → x *ℤ c +ℤ y *ℤ f +ℤ z *ℤ i ≡ pos 0 → Relation a b c d e f g h i
   relation x y z n p q r = record { x = x; y = y; z = z; some = n; first = p; second = q; third = r }
 
-  -- where q times the second row is p times the third, and p is not 0, they have a relation
+  -- if q times the second row is p times the third, and p is not 0, they have a relation
   relation_of_two : (p q : ℤ) → p ≢ pos 0 → q *ℤ d ≡ p *ℤ g → q *ℤ e ≡ p *ℤ h → q *ℤ f ≡ p *ℤ i → Relation a b c d e f g h i
   relation_of_two p q n u v w =
       relation (pos 0) q (neg_ℤ p) (λ t. n (let s = t.2 in omega (arith, linear))) (last a d g u) (last b e h v) (last c f i w)
@@ -44,7 +44,7 @@ module _ (a b c d e f g h i : ℤ) where
       last : (x y z : ℤ) → q *ℤ y ≡ p *ℤ z → pos 0 *ℤ x +ℤ q *ℤ y +ℤ neg_ℤ p *ℤ z ≡ pos 0
       last x y z k = simp ring (omega (arith, linear, k))
 
-  -- where the second and the third row are parallel they have a relation
+  -- if the second and the third row are parallel they have a relation
   relation_of_parallel : d *ℤ h -ℤ e *ℤ g ≡ pos 0 → d *ℤ i -ℤ f *ℤ g ≡ pos 0 → e *ℤ i -ℤ f *ℤ h ≡ pos 0 → Relation a b c d e f g h i
   relation_of_parallel nz ny nx = by (zero_or_not d) (zero_or_not e) (zero_or_not f)
     where
@@ -57,7 +57,7 @@ module _ (a b c d e f g h i : ℤ) where
           relation (pos 0) (pos 1) (pos 0) (λ t. let s = t.1 in omega (arith, ints)) (simp ring (omega (arith, linear))) (simp ring (omega (arith, linear)))
           (simp ring (omega (arith, linear)))
 
-  -- where the determinant is 0 the rows have a relation
+  -- if the determinant is 0 the rows have a relation
   pub relation_of_zero : determinant a b c d e f g h i ≡ pos 0 → Relation a b c d e f g h i
   relation_of_zero z = by (zero_or_not (d *ℤ h -ℤ e *ℤ g)) (zero_or_not (d *ℤ i -ℤ f *ℤ g)) (zero_or_not (e *ℤ i -ℤ f *ℤ h))
     where
@@ -74,7 +74,7 @@ module _ (a b c d e f g h i : ℤ) where
           (simp ring (omega (arith, linear))) (simp ring (omega (arith, linear)))
       by (inl nz) (inl ny) (inl nx) = relation_of_parallel nz ny nx
 
-  -- where it is not 0, the first number of a relation is 0
+  -- if it is not 0, the first number of a relation is 0
   pub first_is_zero : (determinant a b c d e f g h i ≡ pos 0 → ⊥) → (x y z : ℤ) → x *ℤ a +ℤ y *ℤ d +ℤ z *ℤ g ≡ pos 0 → x *ℤ b +ℤ y *ℤ e +ℤ z *ℤ h ≡ pos 0
       → x *ℤ c +ℤ y *ℤ f +ℤ z *ℤ i ≡ pos 0 → x ≡ pos 0
   first_is_zero n x y z p q r = ⊎_elim (λ u. u) (λ u. absurd (n u)) (factor_zero x (determinant a b c d e f g h i) (relation_times_determinant x y z p q r))
@@ -160,7 +160,7 @@ triple_turned a b c = simp ring (omega (arith, linear))
 turned_sum : (x y z : ℤ) → x +ℤ (y +ℤ z) ≡ pos 0 → y +ℤ (z +ℤ x) ≡ pos 0
 turned_sum x y z h = omega (arith, linear, h)
 
--- where the product is not 0, a combination that is 0 has 0 for its first number
+-- if the product is not 0, a combination that is 0 has 0 for its first number
 first_zero : (a b c : Vector) → triple_product a b c ≢ pos 0 → (x y z : ℤ) → plus (times x a) (plus (times y b) (times z c)) ≡ zero_vector → x ≡ pos 0
 first_zero a b c n x y z h =
     first_is_zero a.x a.y a.z b.x b.y b.z c.x c.y c.z (λ e. n (product_is_determinant a.x a.y a.z b.x b.y b.z c.x c.y c.z ∙ e)) x y z
@@ -173,7 +173,7 @@ zero_turned : (a b c : Vector) (x y z : ℤ) → plus (times x a) (plus (times y
     → plus (times y b) (plus (times z c) (times x a)) ≡ zero_vector
 zero_turned a b c x y z h = search (arith, vector_equal, turned_sum)
 
--- where the product is not 0, only the combination with numbers 0 is 0
+-- if the product is not 0, only the combination with numbers 0 is 0
 pub only_zero : (a b c : Vector) → triple_product a b c ≢ pos 0 → (k : Vector) → sum_along a b c k ≡ zero_vector → k ≡ zero_vector
 only_zero a b c n k h = search (arith, zero_turned, vector_equal, first_zero, triple_turned)
 
@@ -186,7 +186,7 @@ difference_part x y z x' y' z' a b c = simp ring (omega (arith, linear))
 pub sum_along_minus : (a b c k l : Vector) → sum_along a b c (minus k l) ≡ minus (sum_along a b c k) (sum_along a b c l)
 sum_along_minus a b c k l = search (arith, vector_equal, difference_part)
 
--- where the product is not 0, the coordinates of a vector are the only ones
+-- if the product is not 0, the coordinates of a vector are the only ones
 pub coordinates_unique : (a b c : Vector) → triple_product a b c ≢ pos 0 → (k l : Vector) → sum_along a b c k ≡ sum_along a b c l → k ≡ l
 coordinates_unique a b c n k l h =
     equal_of_minus k l (only_zero a b c n (minus k l)
@@ -361,7 +361,7 @@ normal_to_none d = record {
     along : Vector
     along = vector (pos 1) (pos 0) (pos 0)
 
--- of one: it is turned in the plane of the first two parts, where it has one of them
+-- of one: it is turned in the plane of the first two parts, if it has one of them
 normal_to_one : (d : ℕ) (a : Vector) → AreIndependent (a ∷ []) → Normal d (a ∷ [])
 normal_to_one d a i = by (zero_or_not a.x) (zero_or_not a.y)
   where

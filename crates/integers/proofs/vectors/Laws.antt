@@ -73,7 +73,7 @@ minus_itself v = vector_equal (omega (arith, linear)) (omega (arith, linear)) (o
 pub minus_zero : (v : Vector) → minus v zero_vector ≡ v
 minus_zero v = vector_equal (omega (arith, linear)) (omega (arith, linear)) (omega (arith, linear))
 
--- where v - w is 0, v is w
+-- if v - w is 0, v is w
 pub equal_of_minus : (v w : Vector) → minus v w ≡ zero_vector → v ≡ w
 equal_of_minus v w e = vector_equal (omega (arith, linear, ap (λ (a : Vector). a.x) e)) (omega (arith, linear, ap (λ (a : Vector). a.y) e))
     (omega (arith, linear, ap (λ (a : Vector). a.z) e))
@@ -82,7 +82,7 @@ equal_of_minus v w e = vector_equal (omega (arith, linear, ap (λ (a : Vector). 
 cancel_number : (t x y : ℤ) → t +ℤ x ≡ t +ℤ y → x ≡ y
 cancel_number t x y e = omega (arith, linear, e)
 
--- where t + v is t + w, v is w
+-- if t + v is t + w, v is w
 pub plus_cancel : (t v w : Vector) → plus t v ≡ plus t w → v ≡ w
 plus_cancel t v w e = vector_equal (cancel_number t.x v.x w.x (ap (λ (a : Vector). a.x) e)) (cancel_number t.y v.y w.y (ap (λ (a : Vector). a.y) e))
     (cancel_number t.z v.z w.z (ap (λ (a : Vector). a.z) e))

@@ -156,7 +156,7 @@ row_sum_minus rows v w = by (row rows 0) (row rows 1) (row rows 2)
 factor : (m a : ℤ) → pos 0 <ℤ a → m *ℤ a ≡ pos 0 → m ≡ pos 0
 factor m a h e = search (arith, other_factor_zero)
 
--- the first of three terms, where the others are 0
+-- the first of three terms, if the others are 0
 first_zero : (k l n a b c : ℤ) → pos 0 <ℤ a → b ≡ pos 0 → (n ≡ pos 0) ⊎ (c ≡ pos 0) → k *ℤ a +ℤ (l *ℤ b +ℤ n *ℤ c) ≡ pos 0 → k ≡ pos 0
 first_zero k l n a b c h e f s =
     let u = ap (λ (t : ℤ). l *ℤ t) e in factor k a h (omega (arith, ints, s, u, last f))

@@ -5,7 +5,7 @@ use super::{
 use net_report::Status;
 use std::test::Fail;
 
-// Arguments, and how a run with them ends, where the files `net`, `--` and `-x` are there.
+// Arguments, and how a run with them ends, if the files `net`, `--` and `-x` are there.
 const ROWS: [(&[&str], Status); 48] = [
     (&["check", "net"], Status::Done),
     (&["place", "net"], Status::Done),

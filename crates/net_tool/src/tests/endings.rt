@@ -13,7 +13,7 @@ const LINE_REPORT: &str =
 const LINE_UNCOVERED: &str =
     "net 1 line 1 \"line\"\ngraph d=2 vertices=1 edges=2 repeats=0\ncover refused 2 CellRank\n";
 
-// Arguments, and what a run with them writes, where the files `dia`, `line` and `archive` are
+// Arguments, and what a run with them writes, if the files `dia`, `line` and `archive` are
 // there.
 const ROWS: [(&[&str], Status, &str); 9] = [
     (&["key", "dia"], Status::Done, DIA_KEY_REPORT),

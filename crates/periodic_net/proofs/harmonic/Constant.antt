@@ -17,7 +17,7 @@ search_vertices G g f =
     let e : suc (G.vertices - 1) ≡ G.vertices = omega arith in let r = greatest_at f (G.vertices - 1) in
     (r.0, (r.1, subst (λ (k : ℕ). r.0 ≤ k) e r.2), λ v h. r.3 v h.0 (subst (λ (k : ℕ). v ≤ k) (sym e) h.1))
 
--- along a walk from a vertex where F is greatest it stays the same
+-- along a walk from a vertex if F is greatest it stays the same
 along_walk : (G : Graph) → IsGraph G → (F : Vertex → ℤ) → IsNetHarmonic G F → (m : ℤ) → ((x : Vertex) → IsVertex G x → F x ≤ℤ m)
     → (steps : List Vertex) (w x : Vertex) → IsVertex G w → F w ≡ m → IsWalk G w steps x → F x ≡ m
 along_walk G g F h m top =
@@ -63,7 +63,7 @@ periodic_constant G g c m one F rep h w x i j =
     let to = λ (y : Vertex) (k : IsVertex G y). let s = c t.0 y t.1 k in along_walk G g F h (F t.0) t.2 s.0 t.0 y t.1 refl s.1 in
     to w i ∙ sym (to x j)
 
--- b is at most a, where it would be equal to a if it were above it
+-- b is at most a, if it would be equal to a if it were above it
 not_above : (a b most : ℤ) (k : ℕ) → most ≤ℤ (a +ℤ pos (suc k)) → (most ≤ℤ (b +ℤ pos k) → a ≡ b) → b ≤ℤ a
 not_above a b most k near same = by_lt_z a b (λ lt. let e = same (omega (arith, ints)) in omega (arith, ints)) (λ le. le)
 

@@ -171,7 +171,7 @@ iso_turned e = record {
 pub iso_symmetric : (G H : Graph) → Iso G H → Iso H G
 iso_symmetric G H e = iso_turned e
 
--- the difference of quotients, where the remainders are below m
+-- the difference of quotients, if the remainders are below m
 same_quotient : (m r s : ℕ) (d : ℤ) → r < m → s < m → pos r ≡ pos s +ℤ pos m *ℤ d → d ≡ pos 0
 same_quotient m r s d l q t = search (arith, product_is)
 
@@ -193,7 +193,7 @@ divided_once m r s k l h i e =
 natural_below : (m : ℕ) (z : ℤ) → pos 0 ≤ℤ z → z <ℤ pos m → (r : ℕ) × (r < m) × (z ≡ pos r)
 natural_below m z l p = search arith
 
--- where a part of the box is divided, the remainder is the part
+-- if a part of the box is divided, the remainder is the part
 divided_part : (m : ℕ) (h : 1 ≤ m) (z k : ℤ) → pos 0 ≤ℤ z → z <ℤ pos m → (pos (divided m h (z +ℤ pos m *ℤ k)).0 ≡ z) × ((divided m h (z +ℤ pos m *ℤ k)).1 ≡ k)
 divided_part m h z k low high = search (arith, natural_below, divided, divided_once)
 

@@ -6,7 +6,7 @@ use Rattle.integers.proofs.vectors.Laws.{vector_equal, minus_dimension, times_di
 use Rattle.integers.proofs.vectors.{Directions.IsCoprime, Directions.one_direction, Independence.zero_or_other}
 use Rattle.periodic_net.specs.Split.{EndsBy}
 
--- (m·c - n·e)·v is 0 where c·v and e·v are
+-- (m·c - n·e)·v is 0 if c·v and e·v are
 dot_difference : (m n c1 c2 c3 e1 e2 e3 v1 v2 v3 : ℤ) → c1 *ℤ v1 +ℤ c2 *ℤ v2 +ℤ c3 *ℤ v3 ≡ pos 0 → e1 *ℤ v1 +ℤ e2 *ℤ v2 +ℤ e3 *ℤ v3 ≡ pos 0
     → (m *ℤ c1 -ℤ n *ℤ e1) *ℤ v1 +ℤ (m *ℤ c2 -ℤ n *ℤ e2) *ℤ v2 +ℤ (m *ℤ c3 -ℤ n *ℤ e3) *ℤ v3 ≡ pos 0
 dot_difference m n c1 c2 c3 e1 e2 e3 v1 v2 v3 e f =
@@ -21,11 +21,11 @@ crossed m n = simp ring (omega (arith, linear))
 no_part : (m n x y : ℤ) → x ≡ pos 0 → y ≡ pos 0 → m *ℤ x -ℤ n *ℤ y ≡ pos 0
 no_part m n x y e f = search arith
 
--- a vector ends by place 1 where its last part is 0
+-- a vector ends by place 1 if its last part is 0
 ends_at_one : (v : Vector) → v.z ≡ pos 0 → EndsBy 1 v
 ends_at_one v h k p = search arith
 
--- and by place 0 where the last two are
+-- and by place 0 if the last two are
 ends_at_zero : (v : Vector) → v.y ≡ pos 0 → v.z ≡ pos 0 → EndsBy 0 v
 ends_at_zero v h k p q = search arith
 

@@ -190,7 +190,7 @@ module _ (G : Graph) where
     pub walk : (u : ℕ) → IsQuotientVertex G u → WalkShift G 1 u (T u)
     pub dimension : (u : ℕ) → IsQuotientVertex G u → HasDimension G.dimension (T u)
 
-  -- where each vector is the shift of a closed walk, each vertex is reached from vertex 1
+  -- if each vector is the shift of a closed walk, each vertex is reached from vertex 1
   reached_from_one : (T : ℕ → Vector) → IsTree T → ((v : Vector) → HasDimension G.dimension v → ClosedShift G 1 v) → (w : Vertex) → IsVertex G w
       → IsReached G (vertex 1 zero_vector) w
   reached_from_one T t all w i =

@@ -31,6 +31,6 @@ pub sum_is_total : {X : Type 0} (f : X → ℤ) (xs : List X) → sum_over whole
 sum_is_total f [] = refl
 sum_is_total f (x ∷ xs) = ap (λ (z : ℤ). f x +ℤ z) (sum_is_total f xs)
 
--- a number is at most another where it is so in this group
+-- a number is at most another if it is so in this group
 pub at_most : (a b : ℤ) → a ≤ℤ b → int_max a b ≡ b
 at_most a b h = omega (arith, ints, clamps)

@@ -1,4 +1,4 @@
--- A connected net has one normal placement, and has it where it has a barycentric one: what two placements differ by is harmonic.
+-- A connected net has one normal placement, and has it if it has a barycentric one: what two placements differ by is harmonic.
 use Rattle.std.proofs.Common.{List, pos, ℤ, ℕ, ◌≡◌, ◌+ℤ◌, ◌-ℤ◌, ◌*ℤ◌, ◌≤◌, ◌-◌, [], ◌∷◌, ◌∙◌, arith, ap, subst, sym, refl, suc, inl, inr}
 use Rattle.std.proofs.Common.{map, length, ◌*◌, ◌+◌, get_or}
 use Rattle.std.proofs.{lemmas.Int.ints, Math.Nat.dvd-mul_left, Math.Nat.mul_assoc, lemmas.List.ext_get_or, lemmas.List.length-map}
@@ -116,7 +116,7 @@ no_gain G g f b h u =
     (λ a k. let i = arc_inside G g a (from_is_arc G u a k).0 in (λ l. h a.to i.to l -ℤ h a.from i.from l) ∙ omega (arith, linear))
     ∙ total_zeros (arcs_from G u)
 
--- d·x = 0 where d·x - e·0 = 0
+-- d·x = 0 if d·x - e·0 = 0
 first_term : (d e x : ℤ) → d *ℤ x -ℤ e *ℤ pos 0 ≡ pos 0 → d *ℤ x ≡ pos 0
 first_term d e x h = omega (arith, ints, h)
 
@@ -166,7 +166,7 @@ normal_scaled G g con p q n k = record {
 scaled_back : (G : Graph) (p q : Placement) → AreScaled G p q → AreScaled G q p
 scaled_back G p q s = record { each = λ u i. sym (s.each u i) }
 
--- where the denominators are g·k and g·l, k divides all of p, and so is 1
+-- if the denominators are g·k and g·l, k divides all of p, and so is 1
 first_is_one : (G : Graph) (p q : Placement) → AreScaled G p q → IsNormal G p → (g k l : ℕ) (s t : ℤ) → 1 ≤ p.denominator
     → p.denominator ≡ g * k → q.denominator ≡ g * l → pos g ≡ s *ℤ pos p.denominator +ℤ t *ℤ pos q.denominator → k ≡ 1
 first_is_one G p q sc n g k l s t one a b c = n.reduced k (subst (λ (x : ℕ). k ∣ x) (sym a) (dvd-mul_left k g)) (λ u i.

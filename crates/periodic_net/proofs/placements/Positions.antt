@@ -1,4 +1,4 @@
--- Positions of vertices; where there is no collision, a position fixes its vertex.
+-- Positions of vertices; if there is no collision, a position fixes its vertex.
 use Rattle.std.proofs.Common.{arith, ℤ, ◌≡◌, ◌+ℤ◌, ◌-ℤ◌, ◌*ℤ◌, ◌∙◌, pos, ℕ, ap, sym, ◌≢◌, ◌≤◌, ◌<◌, subst}
 use Rattle.std.proofs.{lemmas.Int.ints, Math.Decide.dec_lt, Math.Decide.dec_le}
 use Prim.{yes, no, Dec}
@@ -132,7 +132,7 @@ module _ (G : Graph) (p : Placement) where
       same_place = at_origin p u ∙ modulo_apart (pos p.denominator) (base p u) (base p v) r x y;
     }
 
-    -- where no vertex collides with one of a higher number, none collide
+    -- if no vertex collides with one of a higher number, none collide
     pub no_collision_from : 1 ≤ p.denominator → ((u v : ℕ) (t : Vector) → u < v → ¬ IsCollision G p u v t) → HasNoCollision G p
     no_collision_from d none u v t c = by (dec_lt u v) (dec_lt v u)
       where

@@ -12,7 +12,7 @@ use Rattle.archive_answers.specs.ArchiveBytes.{IsArchiveOrText, bytes_in}
 use Rattle.answers.{specs.Due.IsDueFor, proofs.MadeBlocks.due_for}
 use Rattle.answers.proofs.answer.answer_on.Goals as goal
 
--- where memory runs out, there are not too many blocks
+-- if memory runs out, there are not too many blocks
 not_many : (r : Result Answer Silence) → IsErrAnd r (λ e. e ≡ no_memory) → ¬ IsErrOf r TooManyBlocks
 not_many (Ok a) h many = absurd h
 not_many (Err e) h many = grind arith

@@ -1,4 +1,4 @@
--- Of `archive_in`: what it ensures, where there are no bytes, and where an archive is read.
+-- Of `archive_in`: what it ensures, if there are no bytes, and if an archive is read.
 use Rattle.std.proofs.Common.{ℕ, Option, Vec, Global, sym, subst}
 use Rattle.archive_answers.specs.ArchiveBytes.{IsArchiveIn, bytes_in}
 use Rattle.archive_answers.proofs.reading.archive_in.Goals as goal

@@ -1,4 +1,4 @@
--- Of `numbers_at`: the loop over `left`, where a number is put last.
+-- Of `numbers_at`: the loop over `left`, if a number is put last.
 use Rattle.std.proofs.Common.{◌∙◌, ◌+◌, ◌++◌, ◌∷◌, [], ◌-◌, ap, append_assoc, drop, get_or, length, sym, take}
 use Rattle.archive_text.specs.{Entries.entry_view, Entries.entry_views, Groups.numbers_at}
 use Rattle.archive_text.proofs.KeyNumbers.{lent_there, number_first}

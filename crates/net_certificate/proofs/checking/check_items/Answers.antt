@@ -27,7 +27,7 @@ less c =
     shorter_in begun.0 (drawing_of (graph_view c.args.first.now)) p.items (item_view c.in_ok-item.item) c.loop-alloc.lines c.read_item.new.lines
     (p.at begun.0 begun.1) (item_read c begun.0 begun.1)
 
--- one more is refused, where the item is
+-- one more is refused, if the item is
 counted : (c : Joined-branch) → c.if-branch.refused ≡ c.loop-alloc.refused + one_where (is_refused c.in_ok-push_result.ensures.verdict)
 counted c =
     let more = λ (b : Bool). c.loop-alloc.refused + one_where b in

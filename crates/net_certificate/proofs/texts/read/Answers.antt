@@ -14,7 +14,7 @@ use Rattle.net_certificate.proofs.texts.read.Goals as goal
 begun : (c : In-Some) → IsBegun (graph_view c.in-Some.first) c.args.text.now c.read_first.new.lines
 begun c = some_begun c.args.text.now c.new-lines.result _ c.new-lines.ensures.rest c.new-lines.ensures.number _ _ c.in-Some.is c.in_ok-first.ensures.first
 
--- where a line is bad, the text is that of no maps
+-- if a line is bad, the text is that of no maps
 none_told : (text : List ℕ) (maps : Option Maps) → IsTextOf text maps → (fault : RowFault) → IfBadLine (HasBadLine text) fault → IfBadLine (λ (n : ℕ). ⊥) fault
 none_told text maps said fault bad = bad_line_from fault (HasBadLine text) (λ (n : ℕ). ⊥) (λ n b. no_fault text maps n said b) bad
 

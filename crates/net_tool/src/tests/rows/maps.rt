@@ -328,7 +328,7 @@ fn kept_cubic(alloc: Global, one: u32, other: u32, base: &str) -> Result<Vec<u8>
     Ok(text)
 }
 
-// Two vertices, the shifts of a map, and what is told of it where the images of the two are
+// Two vertices, the shifts of a map, and what is told of it if the images of the two are
 // exchanged.
 const FORGED: [(u32, u32, &str, &str); 5] = [
     (

@@ -151,7 +151,7 @@ fn chain(alloc: Global, counts: &[u32], last: &str) -> Result<Vec<u8>, Fail> {
     Ok(text)
 }
 
-// Placements past 2^40, where a fraction on the way is past 62 bits and where none is: such nets
+// Placements past 2^40, if a fraction on the way is past 62 bits and if none is: such nets
 // have no key either.
 #[test]
 fn wide_numbers(rt: HostRuntime) -> Result<(), Fail> {

@@ -222,7 +222,7 @@ fn texts(rt: HostRuntime) -> Result<(), Fail> {
     Ok(())
 }
 
-// A text that is cut is whole only without its last line feed, and where nothing is left.
+// A text that is cut is whole only without its last line feed, and if nothing is left.
 #[test]
 fn cut_texts(rt: HostRuntime) -> Result<(), Fail> {
     let text = DIA.as_bytes();

@@ -1,4 +1,4 @@
--- Of `push`: that the entries are indexed after it, and where a fingerprint is refused.
+-- Of `push`: that the entries are indexed after it, and if a fingerprint is refused.
 use Rattle.std.proofs.Common.{◌≡◌, ◌∙◌, ◌+◌, ◌<◌, ◌^◌, ◌++◌, ◌∷◌, [], ap, arith, length, map, sym, subst, ℕ, List}
 use Rattle.std.proofs.lemmas.List.{length-map, length_push, map_push}
 use Rattle.archive_text.specs.{Entries.EntryView, Entries.entry_view, Entries.entry_views, Lookups.AreIndexed, declared.entry.Entry.Entry}
