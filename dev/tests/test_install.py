@@ -371,19 +371,6 @@ class Scripts(FolderTest):
                 self.assertGreater(len(done.stdout), 80, script)
         self.assertEqual(list(self.folder.iterdir()), [])
 
-    def test_the_tests_of_some_folders(self):
-        """dev/test runs those of the folders that are given, with the program that is given."""
-        for name in ("a", "b"):
-            (self.folder / name).mkdir(parents=True)
-            (self.folder / name / f"test_{name}.py").write_text(
-                "import unittest\nfrom testing import IS_LONG, PROGRAM\nclass One(unittest.TestCase):\n"
-                f"    def test_one(self):\n        self.assertEqual((PROGRAM, IS_LONG), ({str(self.folder / 'program')!r}, True))\n")
-        for words, passed in (((self.folder / "a",), 1), ((self.folder / "a/test_a.py", self.folder / "b"), 2)):
-            done = run(TOP / "dev/test", "--long", self.folder / "program", *words)
-            self.assertIn(f"tools: {passed} passed, 0 failed, 0 skipped\n", done.stdout.decode())
-        self.assertIn("1 failed", run(TOP / "dev/test", self.folder / "b", self.folder / "program", status=1).stdout.decode())
-        self.assertIn(b"no option --other", run(TOP / "dev/test", "--other", status=2).stderr)
-
 
 class InFront(FolderTest):
     """The command in front of a program that ends as the test wants it."""
