@@ -13,8 +13,11 @@ import subprocess
 import tempfile
 import time
 import unittest
+from collections.abc import Callable
 from pathlib import Path
+from typing import TypeVar
 
+Result = TypeVar("Result")
 TESTS = Path(__file__).resolve().parent
 TOP = TESTS.parents[1]
 PYTHON = "/usr/bin/python3"  # for which Debian's packages are
@@ -23,6 +26,7 @@ BIN.chmod(0o755)  # other users run these, too
 atexit.register(shutil.rmtree, BIN, ignore_errors=True)
 PROGRAM = os.environ.get("NET_TOOL", str(TOP / "crates/net_tool/out/net_tool"))
 IS_LONG = os.environ.get("NET_TOOL_LONG") == "1"
+PATIENCE = 300  # seconds until what has to come is a failure, on a machine that has much to do
 PACKAGES = {"gemmi": "python3-gemmi", "numpy": "python3-numpy", "spglib": "python3-spglib", "scipy": "python3-scipy",
             "ase": "python3-ase", "pymatgen": "python3-pymatgen", "networkx": "python3-networkx",
             "pandas": "python3-pandas", "nbconvert": "python3-nbconvert", "ipykernel": "python3-ipykernel",
@@ -94,19 +98,41 @@ def run_on_terminal(*words: object, stdin: bytes = b"") -> tuple[int, bytes]:
     return process.returncode, told
 
 
-def ends_soon(number: int, seconds: float = 5.0) -> bool:
-    """Whether a process has ended, or ends within some seconds. One that nobody waits for has ended too."""
-    until = time.monotonic() + seconds
-    while time.monotonic() < until:
-        try:
-            state = Path(f"/proc/{number}/stat").read_text().rpartition(")")[2].split()[0]
-        except OSError:
-            return True
-        if state in "ZX":
-            return True
-        time.sleep(0.05)
-    os.kill(number, signal.SIGKILL)
-    return False
+def wait_until(comes: Callable[[], Result], told: str = "it does not come") -> Result:
+    """What a call gives once that is something; the test fails if it is not within PATIENCE."""
+    until = time.monotonic() + PATIENCE
+    while not (result := comes()):
+        if time.monotonic() > until:
+            raise AssertionError(f"{told}, in {PATIENCE} seconds")
+        time.sleep(0.02)
+    return result
+
+
+def is_running(number: int) -> bool:
+    """Whether there is a process of this number. One that has ended, and that nobody waits for, is none."""
+    try:
+        return Path(f"/proc/{number}/stat").read_text().rpartition(")")[2].split()[0] not in "ZX"
+    except OSError:
+        return False
+
+
+def ends_soon(number: int) -> bool:
+    """Whether a process has ended, or ends within PATIENCE; it is killed if not."""
+    try:
+        return wait_until(lambda: not is_running(number))
+    except AssertionError:
+        os.kill(number, signal.SIGKILL)
+        return False
+
+
+def running_with(setting: str) -> set[int]:
+    """The processes that run, and began with a variable of the environment, as NET_TOOL=/x."""
+    found = set()
+    for path in Path("/proc").glob("[0-9]*/environ"):
+        with contextlib.suppress(OSError):  # of another user, or ended by now
+            if setting.encode() in path.read_bytes().split(b"\0"):
+                found.add(int(path.parent.name))
+    return set(filter(is_running, found))
 
 
 class FolderTest(unittest.TestCase):
