@@ -2,6 +2,8 @@
 
 from __future__ import annotations
 
+import re
+
 from testing import TOP, FolderTest, run
 
 HEAD = "import os, unittest\nfrom pathlib import Path\nfrom testing import IS_LONG, PROGRAM, TESTS\n"
@@ -105,10 +107,9 @@ class Runner(FolderTest):
         self.write("test_a.py", PASSES, "import time\nclass Slow(unittest.TestCase):\n    def test_it(self):\n        time.sleep(0.4)\n")
         lines = self.told("--times", self.folder)
         place = next(k for k, line in enumerate(lines) if line.startswith("the slowest tests"))
-        clock, processors, name = lines[place + 1].split(maxsplit=2)
-        self.assertTrue(name.endswith("test_a.py: test_a.Slow.test_it"), name)
-        self.assertGreaterEqual(float(clock), 0.4)
-        self.assertLess(float(processors), float(clock))
+        found = re.fullmatch(r"    .*test_a\.py: test_a\.Slow\.test_it: ([\d.]+) s, and ([\d.]+) s of processors", lines[place + 1])
+        self.assertTrue(found and float(found[1]) >= 0.4 > float(found[2]), lines)
+        self.assertRegex(lines[0], r"test_a\.py: [\d.]+ s, and [\d.]+ s of processors")
 
 
 if __name__ == "__main__":

@@ -22,6 +22,7 @@ from pathlib import Path
 from testing import TESTS, TOP
 
 OUTCOME = "outcome: "  # begins the last line of a process that has run a file
+HAS_TIMES = os.environ.get("NET_TOOL_TIMES") == "1"
 MOST_LISTED = 10       # of the slowest files and tests
 
 
@@ -35,6 +36,9 @@ class Seconds:
     @classmethod
     def now(cls) -> Seconds:
         return cls(time.monotonic(), sum(os.times()[:4]))
+
+    def __str__(self) -> str:
+        return f"{self.clock:.1f} s, and {self.processors:.1f} s of processors"
 
     def since(self, begun: Seconds) -> Seconds:
         return Seconds(self.clock - begun.clock, self.processors - begun.processors)
@@ -187,10 +191,11 @@ def called(file: Path) -> str:
 
 
 def tell_outcome(file: Path, outcome: Outcome) -> None:
-    """What the tests of a file printed, why some were skipped, and which failed."""
+    """What the tests of a file printed, why some were skipped, which failed, and how long it took if that is asked for."""
     lines = [outcome.printed] if outcome.printed else []
     lines += [f"{called(file)}: skipped {outcome.skipped.count(reason)}: {reason}" for reason in sorted(set(outcome.skipped))]
     lines += [f"{called(file)}: {name} failed, and is run alone at the end" for name in outcome.failed]
+    lines += [f"{called(file)}: {outcome.whole}"] * HAS_TIMES
     print("".join(f"{line}\n" for line in lines), end="", flush=True)
 
 
@@ -207,10 +212,10 @@ def tell_slowest(outcomes: dict[Path, Outcome]) -> None:
     tests = [(seconds, f"{called(file)}: {name}") for file, outcome in outcomes.items() for name, seconds in outcome.seconds.items()]
     for what, told in (("files", [(outcome.whole, called(file)) for file, outcome in outcomes.items()]), ("tests", tests)):
         told.sort(key=lambda row: -row[0].clock)
-        print(f"the slowest {what}, with seconds of the clock and of processors; in all "
-              f"{sum(seconds.clock for seconds, _ in told):.0f} and {sum(seconds.processors for seconds, _ in told):.0f}")
+        whole = Seconds(sum(seconds.clock for seconds, _ in told), sum(seconds.processors for seconds, _ in told))
+        print(f"the slowest {what}; all: {whole}")
         for seconds, name in told[:MOST_LISTED]:
-            print(f"{seconds.clock:8.1f} {seconds.processors:8.1f}  {name}")
+            print(f"    {name}: {seconds}")
 
 
 def main() -> int:
@@ -224,7 +229,7 @@ def main() -> int:
     tests.run(files_of(sys.argv[1:]))
     failed = tell_failures("failed", tests.failed)
     only_alone = tell_failures("failed beside others and passed alone", tests.only_alone)
-    if os.environ.get("NET_TOOL_TIMES") == "1":
+    if HAS_TIMES:
         tell_slowest(tests.beside)
     print(f"tools: {len(tests.passed)} passed, {failed} failed, {len(tests.skipped)} skipped, {only_alone} only alone")
     return int(failed > 0)
