@@ -161,7 +161,7 @@ class GivenGroups(unittest.TestCase):
         corner, half = ["0 0 0"], ["0 0 0", "0.5 0 0", "0.5 0.5 0", "0.5 0.5 0.5"]
         for group, cell, nodes, told in (
                 ("Pm-3m", "1 1 1 90 90 90", corner, "that of the net"), ("P1", "1 1 1 90 90 90", corner, "of index 48 in"),
-                ("Pm-3m", "2 2 2 90 90 90", half, "of index 8 in"), ("Im-3m", "2 2 2 90 90 90", half[:3], "of index 4 in"),
+                ("Pm-3m", "2 2 2 90 90 90", half, "of index 8 in"), ("Im-3m", "2 2 2 90 90 90", half[:2], "of index 4 in"),
                 ("p4mm", "1 1 90", ["0 0"], "that of the net"), ("p4", "1 1 90", ["0 0"], "of index 2 in")):
             degree = 2 * len(nodes[0].split())
             rows = "".join(f"NODE {k} {degree} {place}\n" for k, place in enumerate(nodes, start=1))
