@@ -83,6 +83,57 @@ class Labels(Kinds):
             element_of("", "", {})
 
 
+class Lists(Kinds):
+    """Atoms that are too many or too few for the formula and Z."""
+
+    VANADIUM = [("V1", "V", 0.242, 0.975, 0.025), ("O1", "O", 0.10, 0.21, 0.20), ("O2", "O", 0.39, 0.69, 0.29)]
+    QUARTZ = [("Si1", "Si", 0.4697, 0, 2 / 3), ("O1", "O", 0.4135, 0.2669, 0.7858)]
+
+    @staticmethod
+    def told(text: str, formula: str, formulas: int = 0) -> str:
+        items = [f"_chemical_formula_sum '{formula}'"] * bool(formula) + [f"_cell_formula_units_Z {formulas}"] * bool(formulas)
+        return text.replace("loop_", "\n".join([*items, "loop_"]), 1)
+
+    def test_atoms_that_another_setting_lays_upon_each_other(self):
+        """VO2 in P21/c; by the operations of P21/n two oxygens are 0.10 angstrom apart."""
+        cell = (5.743, 4.517, 5.375, 90, 122.61, 90)
+        wrong, right = (cif_text(cell, self.VANADIUM, name=name) for name in ("P 1 21/n 1", "P 1 21/c 1"))
+        near = "O1 and O2, both full, are 0.10 angstrom apart"
+        self.assertIn(f"{near}, and the formula has both", self.refusal(self.told(wrong, "O2 V")))
+        self.assertIn(f"{near}, and taken as one atom", self.doubts(wrong))
+        self.assertNotIn("apart", self.doubts(self.told(wrong, "O V")))
+        self.assertEqual(self.doubts(self.told(right, "O2 V")), "")
+
+    def test_an_atom_that_is_listed_twice_is_one(self):
+        twice = [("Zn1", "Zn", 0, 0, 0), ("Zn2", "Zn", 1, 1, 1), ("S1", "S", 0.25, 0.25, 0.25), ("S2", "S", 0.252, 0.25, 0.25)]
+        text = cif_text(cubic(5.41), twice, name="F -4 3 m")
+        self.assertEqual(self.doubts(text), "")
+        self.assert_net("dia", text)
+
+    def test_anions_alone_are_no_structure(self):
+        """The oxygens of quartz: no water, since the formula has no hydrogen."""
+        text = cif_text((4.9134, 4.9134, 5.4052, 90, 90, 120), self.QUARTZ[1:], name="P 32 2 1")
+        self.assertIn("no atom is Si, which the formula has beside O", self.refusal(self.told(text, "O2 Si")))
+        self.assertIn("a water has 6 others", self.doubts(self.told(text, "H2 O")))
+
+    def test_the_origin_with_which_z_fits(self):
+        """Silicon by coordinates of the other origin; two are right where Z has no word."""
+        text = cif_text(cubic(5.431), [("Si1", "Si", 0, 0, 0)], name="F d -3 m:2")
+        self.assertEqual(self.doubts(self.told(text, "Si", 8)), "Z fits F d -3 m:1, not the symmetry that is given")
+        self.assert_net("dia", self.told(text, "Si", 8))
+        self.assertIn("Si-Si 1.92 taken, too short", self.doubts(self.told(text, "Si", 16)))
+
+    def test_some_atoms_of_an_element(self):
+        """Quartz without one of its six oxygens."""
+        places = [(0.4697, 0, 2 / 3), (0, 0.4697, 1 / 3), (0.5303, 0.5303, 0)]
+        oxygens = [(0.4135, 0.2669, 0.7858), (0.7331, 0.1466, 0.4525), (0.8534, 0.5865, 0.1191), (0.2669, 0.4135, 0.2142),
+                   (0.1466, 0.7331, 0.5475), (0.5865, 0.8534, 0.8809)]
+        sites = [(f"Si{k}", "Si", *place) for k, place in enumerate(places)] + [(f"O{k}", "O", *place) for k, place in enumerate(oxygens)]
+        for count, doubt in ((8, "the cell has 5 of 6 O that the formula and Z say"), (9, "")):
+            told = self.doubts(self.told(cif_text((4.9134, 4.9134, 5.4052, 90, 90, 120), sites[:count], name="P 1"), "O2 Si", 3))
+            self.assertEqual(told.partition("\n")[0], doubt)
+
+
 class LonePairs(Kinds):
     @staticmethod
     def nitrite(x: float, ends: int = 1) -> str:

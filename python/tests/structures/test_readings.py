@@ -143,6 +143,8 @@ class Cations(Kinds):
         self.assertIn("without Cs the rest is rods", self.doubts(cif_text(hexagonal(7.171, 5.944), nickel, name="P 63/m m c")))
         tin = [("Cs1", "Cs", 0.25, 0.25, 0.25), ("Sn1", "Sn", 0, 0, 0), ("Br1", "Br", 0.242, 0, 0)]
         self.assertIn("without Cs the rest is molecules", self.doubts(cif_text(cubic(10.837), tin, name="F m -3 m")))
+        zinc = [("K1", "K", 0.5, 0.5, 0.5), ("Zn1", "Zn", 1 / 8, 1 / 8, 1 / 8), ("C1", "C", 0.218, 0.218, 0.218), ("N1", "N", 0.271, 0.271, 0.271)]
+        self.assertIn("without K the rest is molecules", self.doubts(cif_text(cubic(12.54), zinc, name="F d -3 m:2")))
 
     def test_cations_between_chains_of_silicate(self):
         sites = [("Na1", "Na", 0.1656, 0.3388, 0), ("Si1", "Si", 0, 0.1587, 0.5), ("O1", "O", 0.1284, 0.2882, 0.54), ("O2", "O", 0, 0.0867, 0.1773)]
@@ -297,6 +299,14 @@ class Shells(Kinds):
         net = self.net(cif_text(cubic(6.315), manganese, name="P 41 3 2"), lengths={frozenset(("Mn",)): 3.28})
         self.assertEqual(sorted(set(net.graph.degrees())), [12, 14])
 
+    def test_a_metal_with_few_neighbours(self):
+        """Uranium and mercury are distorted packings; polonium is not."""
+        uranium = cif_text((2.854, 5.869, 4.955, 90, 90, 90), [("U1", "U", 0, 0.1025, 0.25)], name="C m c m")
+        self.assertIn("with all contacts up to 3.34 the net is a net in space of 12 neighbours, as hcp", self.doubts(uranium))
+        mercury = cif_text((3.005, 3.005, 3.005, 70.53, 70.53, 70.53), [("Hg1", "Hg", 0, 0, 0)], name="R -3 m:R")
+        self.assertIn("with all contacts up to 3.47 the net is a net in space of 12 neighbours, as fcu", self.doubts(mercury))
+        self.assertEqual(self.doubts(cif_text(cubic(3.359), [("Po1", "Po", 0, 0, 0)], name="P m -3 m")), "")
+
     def test_named_packings_have_no_doubt(self):
         for text in (cif_text(cubic(3.61), [("Cu1", "Cu", 0, 0, 0)], name="F m -3 m"),
                      cif_text(cubic(2.866), [("Fe1", "Fe", 0, 0, 0)], name="I m -3 m")):
@@ -336,7 +346,31 @@ class Carbon(Kinds):
         self.assertEqual(self.doubts(cif_text(hexagonal(2.464, 6.711), graphite, name="P 63/m m c")), "")
 
 
+class OrganicUnits(Kinds):
+    def test_units_of_a_covalent_organic_framework_are_in_doubt(self):
+        """CTF-1: triazines and benzenes, of which the honeycomb is the net."""
+        sites = [("C1", "C", 0.3845, 0.6155, 0), ("N1", "N", 0.2786, 0.7214, 0), ("C2", "C", 0.4445, 0.5555, 0), ("C3", "C", 0.5683, 0.5406, 0)]
+        text = cif_text(hexagonal(14.57, 3.4), sites, name="P 6/m m m")
+        told = self.doubts(text)
+        self.assertIn("with organic units as vertices the net is layers of 3 neighbours, as hcb (--convention standard)", told)
+        self.assert_net("hcb", text, convention="standard")
+
+
 class HydrogenBonds(Kinds):
+    def test_molecules_that_hydrogen_bonds_join(self):
+        """Urea; without its hydrogens nothing is known of them."""
+        sites = [("C1", "C", 0, 0.5, 0.326), ("O1", "O", 0, 0.5, 0.5953), ("N1", "N", 0.1459, 0.6459, 0.1766),
+                 ("D1", "D", 0.2575, 0.7575, 0.2827), ("D2", "D", 0.1441, 0.6441, -0.038)]
+        for count in (5, 3):
+            told = self.refusal(cif_text(tetragonal(5.565, 4.684), sites[:count], name="P -4 21 m"))
+            self.assertEqual("no net: 2 molecules, which hydrogen bonds join to nets in space (--hydrogen-bonds)" in told, count == 5, told)
+
+    def test_a_hydrogen_in_the_middle_of_two_oxygens(self):
+        """HCrO2: sheets of CrO2, joined by hydrogens at centres."""
+        sites = [("Cr1", "Cr", 0, 0, 0), ("H1", "H", 0, 0, 0.5), ("O1", "O", 0, 0, 0.4071)]
+        told = self.doubts(cif_text(hexagonal(2.984, 13.4), sites, name="R -3 m:H"))
+        self.assertIn("without H-O 1.24 the net is layers of 3, 6 neighbours, as kgd", told)
+
     def test_rods_of_molecules(self):
         """Zigzags of hydrogen fluoride, and the same without hydrogens."""
         sites = [("F1", "F", 0, 0.115, 0), ("H1", "H", 0, 0.0345, 0.175)]

@@ -68,6 +68,7 @@ class Crystal:
     formula: dict[str, float] = field(default_factory=dict)  # as the file gives it
     listed_bonds: list[tuple[str, str, float]] = field(default_factory=list)  # two labels, and the length in angstrom
     clash: str = ""    # labels of different full atoms in one place
+    doubled: str = ""  # full atoms of one element in one place, farther from each other than repeats are
     misfit: str = ""   # why the atoms of the cell cannot be right
     near: dict[tuple[int, int], str] = field(default_factory=dict)  # atoms that are nearer than any bond
     shortage: str = ""  # of what the formula has more, where that is all that does not fit

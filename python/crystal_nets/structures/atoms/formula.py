@@ -9,7 +9,9 @@ from statistics import median
 from .elements import is_element, is_metal, makes_anions
 
 OTHER = 1.4  # times: so many more or fewer are reported
+SOME = 0.05  # of the atoms of an element: so many may lack, as by rounded occupancies
 NEAR = 1.15  # times: between the atoms of a cell and those of Z formulas
+ANIONS = frozenset("N O F Cl Br I S Se Te".split())  # which make no net of their own beside what they are bonded to
 
 
 @dataclass(frozen=True)
@@ -31,6 +33,16 @@ class Expected:
         if not ratios or max(ratios) > NEAR * min(ratios) or 1 / OTHER <= min(ratios) <= OTHER:
             return ""
         return f"the cell has {median(ratios):.2g} times the atoms that the formula and Z say"
+
+    def doubt_of_some(self, counts: dict[str, float]) -> str:
+        """What is to be reported if the cell has all atoms of an element that the formula and Z say, and less of another one.
+        Beside carbon these may be of solvents."""
+        wanted = {element: self.formula.get(element, 0.0) * self.formulas for element in counts if element != "H"}
+        whole = [e for e in wanted if wanted[e] > 0 and abs(counts[e] - wanted[e]) <= SOME * wanted[e]]
+        fewer = [e for e in wanted if counts[e] < (1 - SOME) * wanted[e]]
+        if not whole or not fewer or "C" in counts:
+            return ""
+        return f"the cell has {' and '.join(f'{counts[e]:g} of {wanted[e]:g} {e}' for e in fewer)} that the formula and Z say"
 
     def _ratios(self, counts: dict[str, float]) -> list[float]:
         """Of each element other than H its atoms in the cell over those in Z formulas; none if Z is not known."""
@@ -56,6 +68,14 @@ class Expected:
         if not anions or not all(map(is_metal, present)) or set(anions) & set(present):
             return ""
         return f"no atom is {' or '.join(sorted(anions))}, which the formula has beside {' and '.join(sorted(present))}"
+
+    def misfit_of_cations(self, present: Collection[str]) -> str:
+        """Why these are not the atoms of the compound, if it is one of anions, without hydrogen, and a file lists these alone,
+        as the oxygens of quartz: packings of anions are no structures of the compound."""
+        lacking = self._lacking(present)
+        if not lacking or len(present) != 1 or not ANIONS.issuperset(present) or not {"H", "D"}.isdisjoint(self.formula):
+            return ""
+        return f"no atom is {' or '.join(lacking)}, which the formula has beside {''.join(present)}"
 
     def _known(self) -> list[str]:
         return [element for element, count in self.formula.items() if element not in ("H", "D") and count > 0 and is_element(element)]

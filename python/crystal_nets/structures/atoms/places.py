@@ -13,6 +13,7 @@ from ..reading.symmetry import Symmetry
 
 SAME_PLACE = 0.1  # angstrom: images nearer than this are one atom on a symmetry element
 ONE_PLACE = 0.3   # angstrom: atoms of several sites nearer than this are in one place
+REPEATED = 0.05   # angstrom: an atom that is listed twice is so near itself, by the rounding of its numbers
 LONGEST_LABEL = 150
 NOT_IN_NAMES = str.maketrans({mark: "_" for mark in ['"', "\x7f", *map(chr, range(33))]})
 
@@ -63,6 +64,8 @@ def take_once(crystal: Crystal) -> None:
             shared.add(labels)
         elif len(full) > 1:
             crystal.clash = labels
+        else:
+            crystal.doubled = crystal.doubled or _doubled(atoms, crystal.cell)
         atoms[0].content = {"C": 0.5, "N": 0.5} if full == {"C", "N"} else _shared_content(atoms)
         kept[group[0]] = atoms[0]
     crystal.atoms = [kept[i] for i in sorted(kept)]
@@ -70,6 +73,16 @@ def take_once(crystal: Crystal) -> None:
         crystal.noted_doubt("C and N in one place without occupancies, taken as one site: " + "; ".join(sorted(shared)))
     if told:
         crystal.notes.append(Note(OTHER, "in one place, taken as one atom: " + shorten("; ".join(sorted(told)))))
+
+
+def _doubled(atoms: list[Atom], cell: np.ndarray) -> str:
+    """What is told of two full atoms of several sites that are in one place and no repeats of each other, as by operations of
+    another setting."""
+    full = [atom for atom in atoms if atom.occupancy >= FULL]
+    steps = np.array([atom.place - full[0].place for atom in full]) @ np.linalg.inv(cell) if full else np.zeros((0, 3))
+    lengths = np.linalg.norm((steps - np.rint(steps)) @ cell, axis=1)
+    return next((f"{full[0].site.label} and {atom.site.label}, both full, are {length:.2f} angstrom apart"
+                 for atom, length in zip(full, lengths) if atom.site is not full[0].site and length > REPEATED), "")
 
 
 def _shared_content(atoms: list[Atom]) -> dict[str, float]:

@@ -37,7 +37,20 @@ def judge(crystal: Crystal, formula: dict[str, float]) -> None:
     proportions = "" if crystal.clash or near else _other_proportions(crystal, formula)
     crystal.shortage = _shortage(crystal, formula) if proportions else ""
     clash = f"different full atoms in one place: {crystal.clash}" if crystal.clash else ""
-    crystal.misfit = clash or near or proportions
+    crystal.misfit = clash or near or proportions or _lost(crystal, formula)
+    crystal.noted_doubt(_doubt_of_doubled(crystal, formula))
+
+
+def _lost(crystal: Crystal, formula: dict[str, float]) -> str:
+    """Which atoms are near each other without being repeats, where the formula has both: the cell lacks one of them."""
+    is_lost = crystal.doubled and _fits(crystal.listed, formula) and not _fits(_counts(crystal), formula)
+    return f"{crystal.doubled}, and the formula has both" if is_lost else ""
+
+
+def _doubt_of_doubled(crystal: Crystal, formula: dict[str, float]) -> str:
+    """What is to be reported of atoms that are near each other without being repeats, unless the formula has them once."""
+    has_once = _fits(_counts(crystal), formula) and not _fits(crystal.listed, formula)
+    return f"{crystal.doubled}, and taken as one atom" if crystal.doubled and not crystal.misfit and not has_once else ""
 
 
 def _too_near(crystal: Crystal) -> dict[tuple[int, int], str]:

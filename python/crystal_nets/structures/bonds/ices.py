@@ -36,10 +36,17 @@ def is_ice(crystal: Crystal) -> bool:
     """Whether all atoms are of water: oxygens with hydrogens that are listed, attached, told by the formula or by the
     labels; or oxygens alone that are too far from each other to be bonded."""
     elements = {atom.site.element for atom in crystal.atoms}
+    if not may_have_water(crystal):
+        return False
     if elements != {"O"}:
         return elements == {"O", "H"} and not _has_bonds(crystal)
     return (any(atom.site.hydrogens or is_water(atom.site.label) for atom in crystal.atoms)
             or crystal.formula.keys() == {"H", "O"} or not _has_bonds(crystal))
+
+
+def may_have_water(crystal: Crystal) -> bool:
+    """Whether the formula has hydrogen, or oxygen alone, or is not given: oxygens of other compounds are not of water."""
+    return not {"H", "D"}.isdisjoint(crystal.formula) or crystal.formula.keys() <= {"O"}
 
 
 def _has_bonds(crystal: Crystal) -> bool:

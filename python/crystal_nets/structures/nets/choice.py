@@ -81,7 +81,7 @@ def nets_of(crystal: Crystal, options: Options, notes: list[Note]) -> list[Net]:
     if not periodic and options.convention in (AUTO, "standard"):
         return _nets_of_molecules(crystal, chosen, options, notes)
     if not periodic:
-        raise Refused("no net: " + (_told_count(pieces) or "all atoms are left out"))
+        raise Refused("no net: " + (_told_count(pieces) or "all atoms are left out") + _told_bridged(crystal, chosen))
     element = {atom.name: atom.site.element for atom in crystal.atoms}
     notes += _told_pieces(pieces, element) + _doubt_of_pieces(pieces, element)
     components = _components(pieces, crystal)
@@ -186,6 +186,17 @@ def _nets_of_molecules(crystal: Crystal, bonded: QuotientGraph, options: Options
     return nets
 
 
+def _told_bridged(crystal: Crystal, bonded: QuotientGraph) -> str:
+    """What hydrogen bonds join molecules and rods to, if that is a layer or a net in space."""
+    names = [atom.name for atom in crystal.atoms]
+    kept = [v for v, name in enumerate(names) if name in set(bonded.vertices)]
+    number = {name: v for v, name in enumerate(map(str, bonded.vertices))}
+    bridges = {Edge(number[names[u]], number[names[v]], shift) for u, v, shift in hydrogen_bridges(crystal)
+               if names[u] in number and names[v] in number}
+    joined = dimension_of(bonded.with_edges(bonded.edge_set | bridges)) if bridges and kept else 0
+    return f", which hydrogen bonds join to {PLURALS[joined]} (--hydrogen-bonds)" if joined >= 2 else ""
+
+
 def _interpenetration_of_molecules(crystal: Crystal, bridged: QuotientGraph, array: list[Piece], molecules: Units
                                    ) -> Interpenetration | None:
     """How nets of molecules are carried into each other, by the atoms of these with all their bonds, hydrogen bonds too."""
@@ -274,8 +285,8 @@ def _named(crystal: Crystal, group: list[Piece], k: int, options: Options) -> li
     notes = _partial_notes(crystal, framework.net, options) + _told_copies(group)
     asked = _convention_asked(options.convention, framework, group[0], notes)
     is_auto = asked == AUTO
-    if options.convention == AUTO_BY_DEFAULT and set(framework.element.values()) == {"C"}:
-        notes += _doubt_of_carbon(framework, group[0].dimension)
+    if options.convention == AUTO_BY_DEFAULT and not is_auto:
+        notes += _doubt_of_units(framework, group[0])
     read: list[tuple[Convention, UnitNet, Contracted]] = []
     unfit: dict[str, list[str]] = {}
     for convention in conventions_for(asked, framework):
@@ -314,15 +325,20 @@ def _convention_asked(asked: str, framework: Framework, piece: Piece, notes: lis
     return AUTO if has_metals else "all-atoms"
 
 
-def _doubt_of_carbon(framework: Framework, dimension: int) -> list[Note]:
-    """The doubt that the rings of carbon are the vertices of the net, as papers on graphynes have it, and not its atoms."""
+def _doubt_of_units(framework: Framework, piece: Piece) -> list[Note]:
+    """The doubt that rings or organic units are the vertices of the net, as papers on graphynes and on covalent organic
+    frameworks have it, and not atoms."""
+    is_carbon = set(framework.element.values()) == {"C"}
+    if not is_carbon and not _is_organic(framework, piece):
+        return []
     try:
-        rings = read_by(conventions_for("standard", framework)[0], framework, dimension)[1].net
+        units = read_by(conventions_for("standard", framework)[0], framework, piece.dimension)[1].net
     except Refused:
         return []
-    if shells(rings) == shells(contracted(framework.net).net):
+    if shells(units) == shells(contracted(framework.net).net):
         return []
-    return [Note(DOUBT, f"each atom is a vertex; with rings as vertices the net is {described(rings)} (--convention standard)")]
+    told = f"each atom is a vertex; with {'rings' if is_carbon else 'organic units'} as vertices the net is {described(units)}"
+    return [Note(DOUBT, f"{told} (--convention standard)")]
 
 
 def _is_organic(framework: Framework, piece: Piece) -> bool:

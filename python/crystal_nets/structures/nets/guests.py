@@ -33,6 +33,7 @@ WEAK = 0.30         # the greatest mean valence of the bonds of a guest
 WEAK_OF_ONE = 0.34  # of one with a single charge: three bonds share it
 VERY_WEAK = 0.16    # of one without which layers are left
 WEAKEST = 0.13      # below it a site is not as others are, however regular: K in the osmate KOs2O6
+HELD = 0.17         # of one that may hold molecules together: a single charge over six anions
 LARGE = 8           # anions of a large site
 WEAKER = 0.75       # times the strongest other metal: a large site with weaker bonds is a guest, too
 LARGE_UNSURE = 7    # anions: a site that stays, and is reported if the rest is a net without it
@@ -93,7 +94,7 @@ def without_guests(crystal: Crystal, net: QuotientGraph, kept: list[int], notes:
         elif rest >= 2:
             unsure += group
         elif is_guest and not holding and (rest == 1 or (
-                group[0].strength <= VERY_WEAK and _has_other_metals(net, others, crystal))):
+                group[0].strength <= HELD and _has_other_metals(net, others, crystal))):
             holding += group
     result = net.part(sorted(left))
     if removed:

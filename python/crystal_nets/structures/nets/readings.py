@@ -18,6 +18,7 @@ from ...provenance import DOUBT, Note
 from ..atoms.crystal import Crystal
 from ..atoms.elements import is_metal
 from ..bonds.contacts import Contact, radius
+from ..bonds.hydrogen import ACCEPTORS, LONGEST_DONOR
 from ..bonds.rules import (CLOSE, COVALENT, FARTHEST, INTERMETALLIC, POLAR, STRETCHED, are_by_radii, judged_contacts,
                            radius_bonds)
 from ..bonds.shells import shell_bonds
@@ -37,6 +38,8 @@ FARTHER = 1.25    # times the longest bond of a metal: contacts that are looked 
 NEXT_SHELL = 1.02  # times the length before: contacts of another length
 LEAST_NEIGHBOURS = 6  # of each atom, in such a net
 LEAST_PART, MOST_PART = 0.5, 1.2  # of the bonds: so many contacts make another reading of shells
+EQUAL = 0.005      # angstrom, between the lengths of two bonds that are as long
+METALLIC = 8      # neighbours: a metal with fewer in its shell may have farther ones, too
 MOST_ATOMS = 400  # of which nets are made anew
 MOST_NAMED = 400  # vertices of a net that is named by its sequences
 KINDS = ("molecules", "rods", "layers", "a net in space")
@@ -97,6 +100,7 @@ def _readings(crystal: Crystal, bonds: set[Edge]) -> Iterator[Reading]:
         yield Reading(f"with {told_contacts(crystal, secondary)}", _option(crystal, secondary, 0.01),
                       bonds | {c.edge() for c in secondary})
     yield from _readings_of_boranes(crystal, bonds)
+    yield from _readings_of_hydrogen(crystal, bonds)
 
 
 def _longest(crystal: Crystal, c: Contact) -> float:
@@ -161,24 +165,47 @@ def _readings_of_boranes(crystal: Crystal, bonds: set[Edge]) -> Iterator[Reading
                       bonds - {c.edge() for c in held})
 
 
+def _readings_of_hydrogen(crystal: Crystal, bonds: set[Edge]) -> Iterator[Reading]:
+    """Without the bonds of hydrogens between two atoms that accept them: X-H..Y is a hydrogen bond, also if it is as short
+    on both sides, as in HCrO2 (T. Steiner, Angew. Chem. Int. Ed. 41 (2002) 48)."""
+    elements = [atom.site.element for atom in crystal.atoms]
+    near: dict[int, list[Contact]] = defaultdict(list)
+    for c in crystal.contacts(LONGEST_DONOR) if "H" in elements else []:
+        if elements[c.first] == "H" and elements[c.second] in ACCEPTORS and c.edge() in bonds:
+            near[c.first].append(c)
+    lost = [c for ends in near.values() for c in ends
+            if any(c.length > other.length - EQUAL for other in ends if other is not c)]
+    if lost:
+        yield Reading(f"without {told_contacts(crystal, lost)}", _option(crystal, lost, -0.01), bonds - {c.edge() for c in lost})
+
+
 def _readings_of_shells(crystal: Crystal, bonds: set[Edge]) -> Iterator[Reading]:
     """Where the archives do not name a net of shells, all contacts up to the greatest length by which they name one of all
-    atoms: beta manganese, CaCu5 and FeSi have some neighbours between two shells."""
+    atoms: beta manganese, CaCu5 and FeSi have some neighbours between two shells. So it is for a metal with few neighbours,
+    whatever its net: alpha uranium and mercury are distorted packings."""
     names = [atom.name for atom in crystal.atoms]
-    candidates = [(longest, other) for longest, other in _up_to_lengths(crystal, bonds)
+    most = np.inf if _are_few(crystal, bonds) else MOST_PART
+    candidates = [(longest, other) for longest, other in _up_to_lengths(crystal, bonds, most)
                   if other != bonds and _least_neighbours(other, len(names)) >= LEAST_NEIGHBOURS]
     for longest, other in reversed(candidates):
         net = QuotientGraph.of(names, other)
         if len(pieces_of(net)) == 1 and _is_named(net):
-            if not _is_named(QuotientGraph.of(names, bonds)):
+            if most > MOST_PART or not _is_named(QuotientGraph.of(names, bonds)):
                 pairs = sorted({"-".join(sorted(crystal.atoms[v].site.element for v in (bond.u, bond.v))) for bond in other})
                 options = " ".join(f"--bond {pair}={longest + 0.01:.2f}" for pair in pairs)
                 yield Reading(f"with all contacts up to {longest:.2f}", options, other)
             return
 
 
-def _up_to_lengths(crystal: Crystal, bonds: set[Edge]) -> Iterator[tuple[float, set[Edge]]]:
-    """All contacts up to a length in angstrom, for each length by which they are about as many as some bonds."""
+def _are_few(crystal: Crystal, bonds: set[Edge]) -> bool:
+    """Whether all atoms are of one metal, and some have fewer neighbours than metals have, of which few have less than eight
+    (J. Donohue, The Structures of the Elements, 1974)."""
+    elements = {atom.site.element for atom in crystal.atoms}
+    return len(elements) == 1 and all(map(is_metal, elements)) and _least_neighbours(bonds, len(crystal.atoms)) < METALLIC
+
+
+def _up_to_lengths(crystal: Crystal, bonds: set[Edge], most: float) -> Iterator[tuple[float, set[Edge]]]:
+    """All contacts up to a length in angstrom, for each length by which they are at most so many times some bonds."""
     places = np.array([atom.place for atom in crystal.atoms])
     steps = [places[bond.v] + np.array(bond.shift) @ crystal.cell - places[bond.u] for bond in bonds]
     if not steps:
@@ -187,7 +214,7 @@ def _up_to_lengths(crystal: Crystal, bonds: set[Edge]) -> Iterator[tuple[float, 
     found: set[Edge] = set()
     for k, c in enumerate(near):
         found.add(c.edge())
-        if len(found) > MOST_PART * len(bonds):
+        if len(found) > most * len(bonds):
             return
         is_end = k + 1 == len(near) or near[k + 1].length > NEXT_SHELL * c.length
         if is_end and len(found) >= LEAST_PART * len(bonds):

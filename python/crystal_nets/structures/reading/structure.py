@@ -55,16 +55,19 @@ def read_crystal(block: Block) -> Crystal:
         crystal = _with_an_origin(block, cell, crystal, symmetry, crystal_with)
     if crystal.misfit and symmetry.source == "operations":
         crystal = _with_an_origin(block, cell, crystal, symmetry, crystal_with)
+    if symmetry.has_origin and not crystal.misfit and expected.doubt_of(_in_cell(crystal, cell)):
+        crystal = _with_origin_of_z(block, cell, crystal, expected, crystal_with)
     if crystal.shortage:
         crystal.misfit = ""
         crystal.noted_doubt(crystal.shortage)
-    lacking = expected.misfit_of_anions(crystal.listed)
+    lacking = expected.misfit_of_anions(crystal.listed) or expected.misfit_of_cations(crystal.listed)
     crystal.misfit = crystal.misfit or lacking
     crystal.noted_doubt("" if lacking else expected.doubt_of_elements(crystal.listed))
     crystal.noted_doubt(doubt_of_symmetry(block.cif, cell, symmetry) or _doubt_of_setting(symmetry, cell))
     crystal.noted_doubt(_doubt_of_angles(block.cif, cell, symmetry))
     crystal.noted_doubt(_doubt_of_volume(block.cif, cell))
-    return crystal.noted_doubt(expected.doubt_of(_in_cell(crystal, cell)))
+    counts = _in_cell(crystal, cell)
+    return crystal.noted_doubt(expected.doubt_of(counts) or expected.doubt_of_some(counts))
 
 
 def _with_an_origin(block: Block, cell: gemmi.UnitCell, crystal: Crystal, symmetry: Symmetry,
@@ -76,6 +79,17 @@ def _with_an_origin(block: Block, cell: gemmi.UnitCell, crystal: Crystal, symmet
         return _with_fewest_atoms(fitting) or crystal
     for source, other in fitting.items():
         return other.noted_doubt(f"the coordinates fit {source}, not the symmetry that is given")
+    return crystal
+
+
+def _with_origin_of_z(block: Block, cell: gemmi.UnitCell, crystal: Crystal, expected: Expected,
+                      crystal_with: Callable[[Symmetry], Crystal]) -> Crystal:
+    """The crystal with the origin of its group with which it has as many atoms as Z says, where one has: atoms on symmetry
+    elements of one origin are on none, or on others, of the other one."""
+    for origin in both_origins(block.cif, cell):
+        other = crystal_with(origin)
+        if not other.misfit and expected.fits(_in_cell(other, cell)):
+            return other.noted_doubt(f"Z fits {origin.source}, not the symmetry that is given")
     return crystal
 
 
