@@ -349,7 +349,7 @@ class Carbon(Kinds):
 class OrganicUnits(Kinds):
     def test_units_of_a_covalent_organic_framework_are_in_doubt(self):
         """CTF-1: triazines and benzenes, of which the honeycomb is the net."""
-        sites = [("C1", "C", 0.3845, 0.6155, 0), ("N1", "N", 0.2786, 0.7214, 0), ("C2", "C", 0.4445, 0.5555, 0), ("C3", "C", 0.5683, 0.5406, 0)]
+        sites = [("C1", "C", 0.3845, 0.6155, 0), ("N1", "N", 0.2786, 0.7214, 0), ("C2", "C", 0.4445, 0.5555, 0), ("C3", "C", 0.5554, 0.6109, 0)]
         text = cif_text(hexagonal(14.57, 3.4), sites, name="P 6/m m m")
         told = self.doubts(text)
         self.assertIn("with organic units as vertices the net is layers of 3 neighbours, as hcb (--convention standard)", told)
