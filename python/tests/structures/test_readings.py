@@ -365,6 +365,13 @@ class HydrogenBonds(Kinds):
             told = self.refusal(cif_text(tetragonal(5.565, 4.684), sites[:count], name="P -4 21 m"))
             self.assertEqual("no net: 2 molecules, which hydrogen bonds join to nets in space (--hydrogen-bonds)" in told, count == 5, told)
 
+    def test_cations_between_anions_that_hydrogen_bonds_join(self):
+        """KH2PO4: a zircon with its potassium, and a diamond of phosphates."""
+        sites = [("K1", "K", 0, 0, 0.5), ("P1", "P", 0, 0, 0), ("O1", "O", 0.1484, 0.0826, 0.1259), ("H1", "H", 0.148, 0.227, 0.121, 0.5)]
+        text = cif_text(tetragonal(7.4529, 6.9751), sites, name="I -4 2 d")
+        self.assertIn("with hydrogen bonds the net is a net in space of 4 neighbours, as dia", self.doubts(text))
+        self.assert_net("dia", text, hydrogen_bonds=True)
+
     def test_a_hydrogen_in_the_middle_of_two_oxygens(self):
         """HCrO2: sheets of CrO2, joined by hydrogens at centres."""
         sites = [("Cr1", "Cr", 0, 0, 0), ("H1", "H", 0, 0, 0.5), ("O1", "O", 0, 0, 0.4071)]

@@ -18,7 +18,7 @@ from ...provenance import DOUBT, Note
 from ..atoms.crystal import Crystal
 from ..atoms.elements import is_metal
 from ..bonds.contacts import Contact, radius
-from ..bonds.hydrogen import ACCEPTORS, LONGEST_DONOR
+from ..bonds.hydrogen import ACCEPTORS, LONGEST_DONOR, hydrogen_bridges
 from ..bonds.rules import (CLOSE, COVALENT, FARTHEST, INTERMETALLIC, POLAR, STRETCHED, are_by_radii, judged_contacts,
                            radius_bonds)
 from ..bonds.shells import shell_bonds
@@ -58,6 +58,7 @@ class Reading:
     option: str
     bonds: set[Edge]
     only_if_greater: bool = False
+    only_if_guests: bool = False  # whether it matters only if other cations are guests
 
 
 def doubts_of_readings(crystal: Crystal, bonds: set[Edge], chosen: QuotientGraph, choose: Choice) -> list[Note]:
@@ -78,6 +79,8 @@ def doubts_of_readings(crystal: Crystal, bonds: set[Edge], chosen: QuotientGraph
 
 
 def _is_other(reading: Reading, other: QuotientGraph, chosen: QuotientGraph) -> bool:
+    if reading.only_if_guests and set(other.vertices) == set(chosen.vertices):
+        return False
     if reading.only_if_greater and dimension_of(other) <= dimension_of(chosen) and set(other.vertices) == set(chosen.vertices):
         return False
     names = {described(other), described(chosen)}
@@ -167,7 +170,8 @@ def _readings_of_boranes(crystal: Crystal, bonds: set[Edge]) -> Iterator[Reading
 
 def _readings_of_hydrogen(crystal: Crystal, bonds: set[Edge]) -> Iterator[Reading]:
     """Without the bonds of hydrogens between two atoms that accept them: X-H..Y is a hydrogen bond, also if it is as short
-    on both sides, as in HCrO2 (T. Steiner, Angew. Chem. Int. Ed. 41 (2002) 48)."""
+    on both sides, as in HCrO2 (T. Steiner, Angew. Chem. Int. Ed. 41 (2002) 48). And with all hydrogen bonds, if cations are
+    guests of the net that these make, as in KH2PO4."""
     elements = [atom.site.element for atom in crystal.atoms]
     near: dict[int, list[Contact]] = defaultdict(list)
     for c in crystal.contacts(LONGEST_DONOR) if "H" in elements else []:
@@ -177,6 +181,9 @@ def _readings_of_hydrogen(crystal: Crystal, bonds: set[Edge]) -> Iterator[Readin
             if any(c.length > other.length - EQUAL for other in ends if other is not c)]
     if lost:
         yield Reading(f"without {told_contacts(crystal, lost)}", _option(crystal, lost, -0.01), bonds - {c.edge() for c in lost})
+    bridges = hydrogen_bridges(crystal) - bonds if "H" in elements else set()
+    if bridges:
+        yield Reading("with hydrogen bonds", "--hydrogen-bonds", bonds | bridges, only_if_guests=True)
 
 
 def _readings_of_shells(crystal: Crystal, bonds: set[Edge]) -> Iterator[Reading]:
