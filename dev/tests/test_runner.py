@@ -130,7 +130,7 @@ class Forks(FolderTest):
         need_modules("gemmi", "numpy", "scipy")
         asked: tuple[tuple[str, tuple[object, ...], bytes, dict[str, str]], ...] = (
             ("convert", ("--help",), b"", {"COLUMNS": "60"}), ("convert", (TOP / "examples/quartz.cif",), b"", {}), ("convert", ("--no-such",), b"", {}),
-            ("archive list", ("/absent",), b"", {}), ("convert --as nets", (), (TOP / "examples/embedded.cgd").read_bytes() * 300, {}),
+            ("archive list", ("/absent",), b"", {}), ("convert --as nets", (), b"# a comment\n" * 20_000 + (TOP / "examples/embedded.cgd").read_bytes(), {}),
             ("names", ("-",), b"\xff\n", {}), ("archive make", ("x", "nets.cgd"), b"", {"XDG_DATA_HOME": "data"}),
             ("names", ("nets.cgd",), b"", {"NET_TOOL": "/absent"}))
         answers: list[list[tuple[int, bytes, bytes]]] = []
