@@ -272,16 +272,6 @@ class Installed(FolderTest):
         pages = {path.name.removesuffix(".1.gz") for path in (self.prefix / "share/man/man1").iterdir()}
         self.assertLessEqual({path.name for path in (self.prefix / "bin").iterdir()}, pages)
 
-    def test_numbers_that_are_none_are_told(self):
-        """By what they may be, and by no name of the code."""
-        need_modules("gemmi", "numpy", "scipy")
-        for words in ("net_tool convert --as structure --jobs {} x", "net_tool table --jobs {} x y", "net_tool table --seconds {} x y", "net_tool draw --page x --jobs {}",
-                      "net_tool draw --page x --only {}", "net_tool draw --png x --width {}", "net_tool gallery --jobs {} x", "net_tool desk --port {}", "net_tool desk --seconds {}",
-                      "net_tool desk --memory {}"):
-            for value in ("x", "-1", "1.5", "9" * 5000, "٣"):
-                said = self.told(words.replace("{}", f"'{value}'"), 2)[1]
-                self.assertRegex(said, r"error: argument --\w[\w-]*: ('.*' is not a whole number from \d+ to \d+|expected one argument)\n$", (words, value[:9]))
-
     def test_completion_of_subcommands(self):
         """Their words and their options, as the installed command lists them."""
         need_commands("bash")
