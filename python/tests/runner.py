@@ -16,10 +16,12 @@ import time
 import unittest
 from collections.abc import Iterable, Iterator
 from concurrent.futures import ThreadPoolExecutor, as_completed
+from contextlib import nullcontext
 from dataclasses import asdict, dataclass, field
 from pathlib import Path
 
-from testing import TESTS, TOP
+import forked
+from testing import IS_LONG, TESTS, TOP
 
 OUTCOME = "outcome: "  # begins the last line of a process that has run a file
 HAS_TIMES = os.environ.get("NET_TOOL_TIMES") == "1"
@@ -35,7 +37,7 @@ class Seconds:
 
     @classmethod
     def now(cls) -> Seconds:
-        return cls(time.monotonic(), sum(os.times()[:4]))
+        return cls(time.monotonic(), sum(os.times()[:4]) + forked.seconds_of_forks)
 
     def __str__(self) -> str:
         return f"{self.clock:.1f} s, and {self.processors:.1f} s of processors"
@@ -124,12 +126,13 @@ def run_file(file: Path, names: list[str]) -> Outcome:
     return result.whole()
 
 
-def run_apart(file: Path, *names: str) -> Outcome:
-    """Runs them in a process of its own. One that is cut off is a failure of the whole file."""
+def run_apart(file: Path, *names: str, **settings: str) -> Outcome:
+    """Runs them in a process of its own, with settings of its environment. One that is cut off is a failure of the whole
+    file."""
     paths = os.pathsep.join(map(str, (file.parent, TOP / "python", TESTS, TOP / "dev/archives", TOP / "dev/bench")))
     begun = time.monotonic()
     done = subprocess.run([sys.executable, "-B", "-m", "runner", str(file), *names], stdout=subprocess.PIPE, stderr=subprocess.STDOUT,
-                          env={**os.environ, "PYTHONPATH": paths, "NET_TOOL_ONE_FILE": "1"}, stdin=subprocess.DEVNULL)
+                          env={**os.environ, "PYTHONPATH": paths, "NET_TOOL_ONE_FILE": "1", **settings}, stdin=subprocess.DEVNULL)
     *printed, last = done.stdout.decode(errors="replace").splitlines() or [""]
     if last.startswith(OUTCOME):
         outcome = Outcome.read(last.removeprefix(OUTCOME))
@@ -155,8 +158,9 @@ class Run:
     alone: dict[Path, Outcome] = field(default_factory=dict)
 
     def run(self, files: list[Path]) -> None:
-        with ThreadPoolExecutor(len(os.sched_getaffinity(0))) as pool:
-            places = {pool.submit(run_apart, file): file for file in files}
+        """Commands are forks of one process beside others; alone, and for the long tests, Python starts for each."""
+        with nullcontext({}) if IS_LONG else forked.serving() as settings, ThreadPoolExecutor(len(os.sched_getaffinity(0))) as pool:
+            places = {pool.submit(run_apart, file, **settings): file for file in files}
             for done in as_completed(places):
                 self.beside[places[done]] = done.result()
                 tell_outcome(places[done], done.result())
