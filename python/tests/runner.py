@@ -167,7 +167,7 @@ class Run:
             places = {pool.submit(run_apart, file, **settings): file for file in files}
             for done in as_completed(places):
                 self.beside[places[done]] = done.result()
-                tell_outcome(places[done], done.result())
+                tell_outcome(places[done], done.result(), is_alone=len(files) == 1)
         for file, outcome in self.beside.items():
             if outcome.failed:  # one file has been alone already
                 self.alone[file] = run_apart(file, *outcome.failed) if len(files) > 1 else outcome
@@ -198,11 +198,11 @@ def called(file: Path) -> str:
     return os.path.relpath(file, TOP)
 
 
-def tell_outcome(file: Path, outcome: Outcome) -> None:
+def tell_outcome(file: Path, outcome: Outcome, is_alone: bool) -> None:
     """What the tests of a file printed, why some were skipped, which failed, and how long it took if that is asked for."""
     lines = [outcome.printed] if outcome.printed else []
     lines += [f"{called(file)}: skipped {outcome.skipped.count(reason)}: {reason}" for reason in sorted(set(outcome.skipped))]
-    lines += [f"{called(file)}: {name} failed, and is run alone at the end" for name in outcome.failed]
+    lines += [f"{called(file)}: {name} failed, and is run alone at the end" for name in outcome.failed if not is_alone]
     lines += [f"{called(file)}: {outcome.whole}"] * HAS_TIMES
     print("".join(f"{line}\n" for line in lines), end="", flush=True)
 
