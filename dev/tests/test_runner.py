@@ -1,10 +1,16 @@
-"""The runner of all tests: which ones it runs, and what it says of those that fail beside others."""
+"""The runner of all tests: which ones it runs, what it says of those that fail beside others, and how it calls commands."""
 
 from __future__ import annotations
 
+import os
 import re
+import shutil
+import subprocess
+import tempfile
+from unittest import mock
 
-from testing import TOP, FolderTest, run
+import forked
+from testing import PATIENCE, TOP, FolderTest, command, need_modules, need_program, run, running_with, wait_until
 
 HEAD = "import os, unittest\nfrom pathlib import Path\nfrom testing import IS_LONG, PROGRAM, TESTS\n"
 # The first of all calls with a name is told from the later ones by a file.
@@ -82,6 +88,14 @@ class Runner(FolderTest):
         failed = [line.partition(": failed: ")[2] for line in lines]
         self.assertEqual(list(filter(None, failed)), ["test_a.Always.test_it"])
 
+    def test_what_is_skipped_alone_is_a_failure(self) -> None:
+        self.write("test_a.py", PASSES)
+        self.write("test_b.py", "class One(unittest.TestCase):\n    def test_it(self):\n"
+                   "        self.assertFalse(is_first('one'), 'the first time')\n        self.skipTest('later')\n")
+        lines = self.told(self.folder, status=1)
+        self.assertEqual(lines[-1], "tools: 1 passed, 1 failed, 0 skipped, 0 only alone")
+        self.assertTrue(any(line.endswith("the first time") for line in lines))
+
     def test_one_file_is_alone_already(self) -> None:
         self.write("test_a.py", ONCE)
         self.assertEqual(self.told(self.folder, status=1)[-1], "tools: 1 passed, 2 failed, 0 skipped, 0 only alone")
@@ -110,6 +124,44 @@ class Runner(FolderTest):
         found = re.fullmatch(r"    .*test_a\.py: test_a\.Slow\.test_it: ([\d.]+) s, and ([\d.]+) s of processors", lines[place + 1])
         self.assertTrue(found and float(found[1]) >= 0.4 > float(found[2]), lines)
         self.assertRegex(lines[0], r"test_a\.py: [\d.]+ s, and [\d.]+ s of processors")
+
+
+class Forks(FolderTest):
+    """A command that is forked does what it does as a process of its own."""
+
+    def ended(self, name: str, *words: object, stdin: bytes = b"", **settings: str) -> tuple[int, bytes, bytes]:
+        done = run(command(name), *words, status=None, stdin=stdin, **settings)
+        return done.returncode, done.stdout, done.stderr
+
+    def test_status_and_outputs(self) -> None:
+        need_program()
+        need_modules("gemmi", "numpy", "scipy")
+        asked: tuple[tuple[str, tuple[object, ...], bytes, dict[str, str]], ...] = (
+            ("convert", ("--help",), b"", {"COLUMNS": "60"}), ("convert", (TOP / "examples/quartz.cif",), b"", {}), ("convert", ("--no-such",), b"", {}),
+            ("archive list", ("/absent",), b"", {}), ("convert --as nets", (), b"# a comment\n" * 20_000 + (TOP / "examples/embedded.cgd").read_bytes(), {}),
+            ("names", ("-",), b"\xff\n", {}), ("archive make", ("x", "nets.cgd"), b"", {"XDG_DATA_HOME": "data"}),
+            ("names", ("nets.cgd",), b"", {"NET_TOOL": "/absent"}))
+        answers: list[list[tuple[int, bytes, bytes]]] = []
+        before = os.getcwd()
+        self.addCleanup(os.chdir, before)
+        with forked.serving() as own:
+            for setting in (own, {forked.SOCKET: ""}):
+                os.chdir(tempfile.mkdtemp(dir=self.folder))
+                shutil.copy(TOP / "examples/sql.cgd", "nets.cgd")
+                with mock.patch.dict(os.environ, setting):
+                    self.assertEqual(forked.can_call({}), setting is own)
+                    answers.append([self.ended(name, *words, stdin=stdin, **settings) for name, words, stdin, settings in asked])
+        self.assertEqual(*answers)
+        self.assertEqual([status for status, _, _ in answers[0]], [0, 0, 2, 1, 0, 1, 0, 1])
+
+    def test_one_that_takes_too_long_is_killed(self) -> None:
+        program = self.folder / "program"
+        program.write_text(f"#!/bin/sh\nexec sleep {2 * PATIENCE}\n")
+        program.chmod(0o755)
+        with forked.serving() as own, mock.patch.dict(os.environ, own):
+            with self.assertRaises(subprocess.TimeoutExpired):
+                run(command("names"), TOP / "examples/sql.cgd", seconds=2, NET_TOOL=str(program))
+            wait_until(lambda: not running_with(f"NET_TOOL={program}"), "the program runs on")
 
 
 if __name__ == "__main__":

@@ -17,6 +17,8 @@ from collections.abc import Callable
 from pathlib import Path
 from typing import TypeVar
 
+import forked
+
 Result = TypeVar("Result")
 TESTS = Path(__file__).resolve().parent
 TOP = TESTS.parents[1]
@@ -24,6 +26,7 @@ PYTHON = "/usr/bin/python3"  # for which Debian's packages are
 BIN = Path(tempfile.mkdtemp(prefix="net_tool_tests."))
 BIN.chmod(0o755)  # other users run these, too
 atexit.register(shutil.rmtree, BIN, ignore_errors=True)
+COMMANDS: dict[str, list[str]] = {}  # the subcommands that files in BIN are for
 PROGRAM = os.environ.get("NET_TOOL", str(TOP / "crates/net_tool/out/net_tool"))
 IS_LONG = os.environ.get("NET_TOOL_LONG") == "1"
 PATIENCE = 300  # seconds until what has to come is a failure, on a machine that has much to do
@@ -64,7 +67,8 @@ long_test = unittest.skipUnless(IS_LONG, "long tests are run by dev/test --long"
 def command(words: str) -> Path:
     """A file that runs a subcommand of net_tool that is written in Python, as `archive list`."""
     path = BIN / words.replace(" ", ".")
-    if not path.exists():
+    if str(path) not in COMMANDS:
+        COMMANDS[str(path)] = words.split()
         path.write_text(f"#!{PYTHON}\nimport sys\nsys.path[:1], sys.argv[1:1] = [{str(TOP / 'python')!r}], {words.split()!r}\n"
                         "from crystal_nets.commands import main\nif __name__ == '__main__':\n    main()\n")
         path.chmod(0o755)
@@ -74,8 +78,12 @@ def command(words: str) -> Path:
 def run(*words: object, status: int | None = 0, stdin: bytes = b"", seconds: int = 1800,
         **settings: str) -> subprocess.CompletedProcess:
     """Runs a command; where it does not end with the status, the test fails with what it told."""
-    done = subprocess.run([str(word) for word in words], input=stdin, capture_output=True, timeout=seconds,
-                          env={**os.environ, "NET_TOOL": PROGRAM, "PYTHONDONTWRITEBYTECODE": "1", **settings})
+    environment = {**os.environ, "NET_TOOL": PROGRAM, "PYTHONDONTWRITEBYTECODE": "1", **settings}
+    first, *others = (str(word) for word in words)
+    if first in COMMANDS and forked.can_call(settings):
+        done = forked.call([first, *COMMANDS[first], *others], stdin, seconds, environment)
+    else:
+        done = subprocess.run([first, *others], input=stdin, capture_output=True, timeout=seconds, env=environment)
     if status is not None and done.returncode != status:
         told = done.stderr[-2000:].decode(errors="replace") or done.stdout[-500:].decode(errors="replace")
         raise AssertionError(f"{words[0]} ended with {done.returncode}, not {status}: {told}")

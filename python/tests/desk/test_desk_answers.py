@@ -15,7 +15,7 @@ from testing import IS_LONG, TOP, FolderTest
 
 need_desk()
 import numpy as np  # noqa: E402
-from crystal_nets import Archive, Net, cover, read  # noqa: E402
+from crystal_nets import Archive, Net, cover, identify, read  # noqa: E402
 from crystal_nets.desk import questions  # noqa: E402
 from crystal_nets.desk.archives import Shelf  # noqa: E402
 from crystal_nets.desk.atoms import NotDrawn, atoms, upright_cell  # noqa: E402
@@ -212,6 +212,21 @@ class Atoms(unittest.TestCase):
         for name, content, block in (("x.cgd", net.block, net.block), ("quartz.cif", (EXAMPLES / "quartz.cif").read_bytes(), b"x")):
             with self.assertRaisesRegex(NotDrawn, "not drawn"):
                 atoms(name, content, {}, block)
+
+
+class Crystals(unittest.TestCase):
+    """What the buttons `Save CIF` and `Save relaxed CIF` give of quartz: its cell in units of the mean edge."""
+
+    def test_the_standard_realization_and_the_relaxed_one(self):
+        net, = read(EXAMPLES / "quartz.cif")
+        found = {kind: questions.crystal(net.block, "quartz", kind) for kind in ("barycentric", "relaxed")}
+        self.assertEqual([one["certainty"] for one in found.values()], ["standard realization", "equal edges, certified"])
+        self.assertNotEqual(found["barycentric"]["cif"], found["relaxed"]["cif"])
+        for one in found.values():
+            self.assertEqual(identify(one["cgd"], archive=None).key, identify(net, archive=None).key)
+
+    def test_a_net_without_a_key_has_none(self):
+        self.assertIn("no key", questions.crystal(b"PERIODIC_GRAPH\nEDGES\n1 1 1 0\n1 2 0 0\n1 3 0 0\n1 1 0 1\nEND\n", "x")["reason"])
 
 
 class Beyond(unittest.TestCase):
