@@ -14,6 +14,7 @@ from .formats import ARCHIVE, format_of
 from .reading import nets_of_archive, unpacked
 
 KINDS = {"structure": "structures", "nets": "blocks"}
+WITH_VALUE = frozenset("--leave-out --bond --convention --mode --bonds --jobs --notes".split())  # options of structures
 OF_LINKS = {"cif2cgd": "structure", "cgd2net": "nets"}
 HEAD = """usage: net_tool convert [--as structure|nets] [options] FILE..
 
@@ -37,7 +38,7 @@ def main() -> int:
             print(f"With --as {reader}:\n", flush=True)
             _show_help(reader)
         return 0
-    files = [word for word in words if word == "-" or not word.startswith("-")]
+    files = _files_among(words)
     kinds = {_kind_of(file) for file in files if os.path.exists(file) or file == "-"} if kind is None else set()
     if len(kinds) > 1:
         print(f"{command_line.called()}: these are structures and nets: convert them apart, or set --as",
@@ -72,6 +73,12 @@ def _kind_asked(words: list[str]) -> str | None:
             del words[place:place + 1 + (word == "--as")]
             return value
     return None
+
+
+def _files_among(words: list[str]) -> list[str]:
+    """The words that are files: neither options nor the values of options, as a file of notes that is there already."""
+    return [word for before, word in zip(["", *words], words)
+            if before not in WITH_VALUE and (word == "-" or not word.startswith("-"))]
 
 
 def _kind_of(file: str) -> str:

@@ -279,6 +279,13 @@ class ManyFiles(FolderTest):
         self.assertEqual(notes[2]["notes"], ["symmetry from name P m -3 m"])
         self.assertEqual((notes[2]["doubts"], notes[2]["left_out"], notes[2]["refused"]), ([], [], []))
 
+    def test_notes_that_are_there_are_written_anew(self):
+        """By the words of `convert`, which tells structures from nets: a file of notes is neither."""
+        file = self.folder / "notes.json"
+        for _ in range(2):
+            run(command("convert"), "--notes", file, self.folder / "a/one.cif")
+        self.assertEqual(len(file.read_text().splitlines()), 1)
+
     def test_notes_that_cannot_be_written(self):
         self.assertIn(b"not writable", run(COMMAND, "--notes", self.folder, self.folder, status=2).stderr)
 
