@@ -6,7 +6,6 @@ use Rattle.std.specs.List.{flat_map, slice_split, onto_first}
 use Rattle.std.proofs.lemmas.Bool.{cases_Bool, true≢false}
 use Rattle.std.specs.Str.{bytes_eq}
 use Rattle.line_text.specs.Lines.{HasNo}
-use Rattle.line_text.proofs.CallerLemmas.{sum_has_no}
 use Rattle.cgd_lex.specs.Pieces.{Piece, IsCut, bytes_of, cut_of}
 use Rattle.cgd_lex.specs.Lines.{filled_line, filled_lines, is_newline}
 use Rattle.cgd_lex.specs.Tokens.{TokenView, token_at, tokens_of_pieces, tokens_of_line, later_lines, lines_of, first_of, others_of, first_line, tokens_of, kind_of_piece}
@@ -16,12 +15,12 @@ use Rattle.cgd_lex.proofs.Cuts.{is_cut}
 use Rattle.cgd_read.specs.Blocks.{block_by, block_of, blocks_from, blocks_of, graph_block, graph_units, malformed, with_body}
 use Rattle.cgd_read.specs.Edges.{vertices_of, with_new}
 use Rattle.cgd_read.specs.Faults.{has_row, is_end, name_after, name_of, rows_in}
-use Rattle.cgd_read.specs.Lines.{FieldsView, LineView, fields_from, is_bare, kind_of, line_of, line_with, name_of_fields, text_of_first, token_lines}
+use Rattle.cgd_read.specs.Lines.{FieldsView, LineView, fields_from, is_bare, kind_of, line_of, name_of_fields, text_of_first, token_lines}
 use Rattle.cgd_read.specs.Units.{first_true, or_fault, unit_after}
 use Rattle.cgd_read.specs.Views.{BlockView, BodyView, Net, Other, Faulty}
 use Rattle.cgd_read.specs.declared.line.LineKind.{LineKind}
 use Rattle.cgd_read.specs.declared.line.LineKind.TheVariants.{Opening, Name, Edges, End, Unknown, Bare, Broken}
-use Rattle.cgd_read.specs.declared.block.BlockFaultKind.TheVariants.{BadToken, NoEnd}
+use Rattle.cgd_read.specs.declared.block.BlockFaultKind.TheVariants.{BadToken}
 use Rattle.net_report.specs.Telling.{AreEach, IsOnLine}
 
 -- Of two values, the one that a test chooses.

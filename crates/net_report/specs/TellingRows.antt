@@ -1,5 +1,5 @@
 -- What the lines of a placement, of a primitive graph, of coordination sequences and of names say.
-use Rattle.std.specs.Prelude.{◌≡◌, ◌≢◌, ℕ, ◌+◌, ◌≤◌, ℤ, pos, List, [], ◌∷◌, ◌++◌, map, length, All, slice_index_or}
+use Rattle.std.specs.Prelude.{◌≡◌, ◌≢◌, ℕ, ◌+◌, ◌≤◌, ℤ, pos, List, ◌++◌, map, length, All, slice_index_or}
 use Rattle.integers.specs.Vectors.{Vector, parts}
 use Rattle.periodic_net.specs.{Graph.Arc, Placement.base}
 use Rattle.line_text.specs.{Lines.HasNo, Numbers.IsWide}
