@@ -110,7 +110,8 @@ CertainAreAccepted blocks outcomes =
 
 -- These are the outcomes of the blocks under a command, beside an archive with these entries: one of each block, in order. Two keys, of
 -- blocks or of entries, are equal if and only if the nets are isomorphic, by a bijection with a period or by any. So are the printed lines of
--- two keys. A net that is refused for what it is in each cell is that of no accepted block and of no entry. And but for the components, a block whose graph is certain is accepted.
+-- two keys. A net that is refused for what it is in each cell is that of no accepted block and of no entry. And but for the components, a
+-- block whose graph is certain is accepted.
 pub record AreOutcomes (command : Command) (entries : List EntryView) (blocks : List BlockView) (outcomes : List Outcome) : Type 0 where
   pub each : AreOutcomesFrom entries command 1 blocks outcomes
   pub keys : KeysDecideBlocks Iso blocks outcomes
