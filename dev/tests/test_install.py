@@ -9,11 +9,10 @@ import shutil
 import signal
 import subprocess
 import tempfile
-import time
 from pathlib import Path
 
-from testing import (PROGRAM, TOP, FolderTest, command, ends_soon, long_test, need_commands, need_modules,
-                     need_program, run)
+from testing import (PATIENCE, PROGRAM, TOP, FolderTest, ends_soon, long_test, need_commands, need_modules,
+                     need_program, run, wait_until)
 
 import crystal_nets.commands
 from crystal_nets.commands import commands
@@ -371,19 +370,6 @@ class Scripts(FolderTest):
                 self.assertGreater(len(done.stdout), 80, script)
         self.assertEqual(list(self.folder.iterdir()), [])
 
-    def test_the_tests_of_some_folders(self):
-        """dev/test runs those of the folders that are given, with the program that is given."""
-        for name in ("a", "b"):
-            (self.folder / name).mkdir(parents=True)
-            (self.folder / name / f"test_{name}.py").write_text(
-                "import unittest\nfrom testing import IS_LONG, PROGRAM\nclass One(unittest.TestCase):\n"
-                f"    def test_one(self):\n        self.assertEqual((PROGRAM, IS_LONG), ({str(self.folder / 'program')!r}, True))\n")
-        for words, passed in (((self.folder / "a",), 1), ((self.folder / "a/test_a.py", self.folder / "b"), 2)):
-            done = run(TOP / "dev/test", "--long", self.folder / "program", *words)
-            self.assertIn(f"tools: {passed} passed, 0 failed, 0 skipped\n", done.stdout.decode())
-        self.assertIn("1 failed", run(TOP / "dev/test", self.folder / "b", self.folder / "program", status=1).stdout.decode())
-        self.assertIn(b"no option --other", run(TOP / "dev/test", "--other", status=2).stderr)
-
 
 class InFront(FolderTest):
     """The command in front of a program that ends as the test wants it."""
@@ -439,15 +425,14 @@ class Ending(FolderTest):
     def begun(self, *before: str) -> tuple[subprocess.Popen, int]:
         """The installed command, while its program runs, and the number of the program's process."""
         program, note = self.folder / "program", self.folder / "pid"
-        program.write_text(f"#!/bin/sh\necho $$ >{note}.new\nmv {note}.new {note}\nexec sleep 60\n")
+        program.write_text(f"#!/bin/sh\necho $$ >{note}.new\nmv {note}.new {note}\nexec sleep {2 * PATIENCE}\n")
         program.chmod(0o755)
         note.unlink(missing_ok=True)
         run(INSTALL / "install.sh", self.folder / "prefix", program)
         process = subprocess.Popen([*before, self.folder / "prefix/bin/net_tool", "workload", "1"], stdin=subprocess.DEVNULL,
                                    start_new_session=True)
         self.addCleanup(process.kill)
-        while not note.exists():
-            time.sleep(0.02)
+        wait_until(note.exists)
         return process, int(note.read_text())
 
     def test_by_each_signal(self):
@@ -455,7 +440,7 @@ class Ending(FolderTest):
                              (signal.SIGINT, os.killpg)):  # a terminal sends this one to all of the group
             process, program = self.begun()
             send(process.pid, number)
-            self.assertEqual(process.wait(10), -number)
+            self.assertEqual(process.wait(PATIENCE), -number)
             self.assertTrue(ends_soon(program), number)
 
     def test_without_setpriv_the_program_is_the_command_itself(self):
@@ -466,7 +451,7 @@ class Ending(FolderTest):
         process, program = self.begun("env", f"PATH={tools}")
         self.assertEqual(process.pid, program)
         process.kill()
-        process.wait(10)
+        process.wait(PATIENCE)
 
 
 class Words(FolderTest):
@@ -487,7 +472,7 @@ class Completion(FolderTest):
         need_commands("bash")
         script = (f"source {shlex.quote(str(TOP / 'front/net_tool.bash'))}; COMP_WORDS=({shlex.join(words)}); "
                   f"COMP_CWORD={len(words) - 1}; _net_tool {TOP / 'net_tool'}; printf '%s\\n' \"${{COMPREPLY[@]}}\"")
-        done = subprocess.run(["bash", "-c", script], cwd=self.folder, capture_output=True, timeout=20)
+        done = subprocess.run(["bash", "-c", script], cwd=self.folder, capture_output=True, timeout=PATIENCE)
         return set(done.stdout.decode().split("\n")) - {""}
 
     def test_commands_options_and_files(self):
