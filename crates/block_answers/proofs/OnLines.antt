@@ -8,7 +8,8 @@ use Rattle.std.specs.Str.{bytes_eq}
 use Rattle.line_text.specs.Lines.{HasNo}
 use Rattle.cgd_lex.specs.Pieces.{Piece, IsCut, bytes_of, cut_of}
 use Rattle.cgd_lex.specs.Lines.{filled_line, filled_lines, is_newline}
-use Rattle.cgd_lex.specs.Tokens.{TokenView, token_at, tokens_of_pieces, tokens_of_line, later_lines, lines_of, first_of, others_of, first_line, tokens_of, kind_of_piece}
+use Rattle.cgd_lex.specs.Tokens.{TokenView, token_at, tokens_of, tokens_of_line, tokens_of_pieces, kind_of_piece}
+use Rattle.cgd_lex.specs.Tokens.{first_line, first_of, later_lines, lines_of, others_of}
 use Rattle.cgd_lex.specs.Words.{inner, is_bad, is_quoted, name_in, unquoted}
 use Rattle.cgd_lex.specs.declared.token.TokenKind.{TokenKind}
 use Rattle.cgd_lex.proofs.Cuts.{is_cut}
@@ -220,7 +221,9 @@ new_name same xs x h k = chosen (AreEach (HasNo 10)) _ xs (xs ++ x ∷ []) h (ea
 
 vertices_say : (rows : List FieldsView) → AreEach IsRowOnLine rows → AreEach (HasNo 10) (vertices_of rows)
 vertices_say [] h = tt
-vertices_say (row ∷ rows) h = new_name bytes_eq (with_new bytes_eq (vertices_of rows) row.u) row.v (new_name bytes_eq (vertices_of rows) row.u (vertices_say rows h.1) h.0.u) h.0.v
+vertices_say (row ∷ rows) h =
+    new_name bytes_eq (with_new bytes_eq (vertices_of rows) row.u) row.v
+    (new_name bytes_eq (vertices_of rows) row.u (vertices_say rows h.1) h.0.u) h.0.v
 
 or_fault_is : {Kind X : Type 0} (P : X → Type 0) (o : Option Kind) (f : Kind → X) (later : X) → ((k : Kind) → P (f k)) → P later → P (or_fault o f later)
 or_fault_is P None f later h k = k
@@ -252,7 +255,8 @@ block_reads Broken line lines h k = record { name = tt; body = h.first }
 blocks_read : (inside : Bool) (lines : List LineView) → AreEach HasLineTexts lines → AreEach IsReadOnLines (blocks_from inside lines)
 blocks_read inside [] h = tt
 blocks_read true (line ∷ lines) h =
-    chosen (AreEach IsReadOnLines) (is_end line.kind) (blocks_from false lines) (blocks_from true lines) (blocks_read false lines h.1) (blocks_read true lines h.1)
+    chosen (AreEach IsReadOnLines) (is_end line.kind) (blocks_from false lines) (blocks_from true lines) (blocks_read false lines h.1)
+    (blocks_read true lines h.1)
 blocks_read false (line ∷ lines) h =
     chosen (AreEach IsReadOnLines) (is_end line.kind) (blocks_from false lines) (block_of line lines ∷ blocks_from true lines) (blocks_read false lines h.1)
     (block_reads line.kind line lines h.0 h.1, blocks_read true lines h.1)

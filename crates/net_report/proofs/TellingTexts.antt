@@ -171,12 +171,16 @@ vertex_on_line names u on = elim (cases_Bool (length names == 0)) [
 value_on_line : (site : WideSite) (value : ℤ) → HasNo 10 (value_text site value)
 value_on_line site value = search (arith, sum_has_no, signed_on_line)
 
+ends_on_line : (names : List (List ℕ)) (u v : ℕ) → AreEach (HasNo 10) names
+    → HasNo 10 (codes " u=" ++ vertex_text names u ++ codes " v=" ++ vertex_text names v)
+ends_on_line names u v on =
+    four_none (codes " u=") (vertex_text names u) (codes " v=") (vertex_text names v) (search arith) (vertex_on_line names u on) (search arith)
+    (vertex_on_line names v on)
+
 arc_on_line : (names : List (List ℕ)) (dim u v : ℕ) (s : Vector) → AreEach (HasNo 10) names → HasNo 10 (arc_text names dim u v s)
 arc_on_line names dim u v s on =
-    let a = codes " u=" ++ vertex_text names u in
-    three_none (a ++ codes " v=" ++ vertex_text names v) (codes " s=") (list_text (parts dim s))
-    (three_none a (codes " v=") (vertex_text names v) (sum_has_no 10 (codes " u=") (vertex_text names u) (search arith) (vertex_on_line names u on)) (search arith)
-    (vertex_on_line names v on)) (search arith) (list_none (parts dim s))
+    three_none (codes " u=" ++ vertex_text names u ++ codes " v=" ++ vertex_text names v) (codes " s=") (list_text (parts dim s)) (ends_on_line names u v on)
+    (search arith) (list_none (parts dim s))
 
 place_on_line : (at : Place) → HasNo 10 (place_text at)
 place_on_line at =
@@ -203,10 +207,8 @@ split_on_line s =
 
 collision_on_line : (names : List (List ℕ)) (dim u v : ℕ) (t : Vector) → AreEach (HasNo 10) names → HasNo 10 (collision_text names dim u v t)
 collision_on_line names dim u v t on =
-    let a = codes " u=" ++ vertex_text names u in
-    three_none (a ++ codes " v=" ++ vertex_text names v) (codes " t=") (list_text (parts dim t))
-    (three_none a (codes " v=") (vertex_text names v) (sum_has_no 10 (codes " u=") (vertex_text names u) (search arith) (vertex_on_line names u on)) (search arith)
-    (vertex_on_line names v on)) (search arith) (list_none (parts dim t))
+    three_none (codes " u=" ++ vertex_text names u ++ codes " v=" ++ vertex_text names v) (codes " t=") (list_text (parts dim t)) (ends_on_line names u v on)
+    (search arith) (list_none (parts dim t))
 
 details_on_line : (names : List (List ℕ)) (r : Refusal) → AreEach (HasNo 10) names → HasNo 10 (refusal_details names r)
 details_on_line names (Disconnected split) on = split_on_line split
@@ -322,11 +324,13 @@ same_body (Refused y ms r) (Refused z ns q) s t whole whole' h k e =
     let l = same_lines (refused_text ms r) (refused_text ns q) s t (refused_line ms r h) (refused_line ns q k) p.1 in
     ((p.0, l.0), l.1)
 same_body (Refused y ms r) (Keyed z n) s t whole whole' h k e =
-    let p = after_size y z (refused_text ms r) (key_text (net_view n).key) s t whole whole'.0 e in absurd (let first = ap first_byte p.1 in omega (arith, first))
+    let p = after_size y z (refused_text ms r) (key_text (net_view n).key) s t whole whole'.0 e in
+    absurd (let first = ap first_byte p.1 in omega (arith, first))
 same_body (Keyed y m) (Unsupported b) s t whole whole' h k e = absurd (let first = ap first_byte e in omega (arith, first))
 same_body (Keyed y m) (Malformed g) s t whole whole' h k e = absurd (let first = ap first_byte e in omega (arith, first))
 same_body (Keyed y m) (Refused z ns q) s t whole whole' h k e =
-    let p = after_size y z (key_text (net_view m).key) (refused_text ns q) s t whole.0 whole' e in absurd (let first = ap first_byte p.1 in omega (arith, first))
+    let p = after_size y z (key_text (net_view m).key) (refused_text ns q) s t whole.0 whole' e in
+    absurd (let first = ap first_byte p.1 in omega (arith, first))
 same_body (Keyed y m) (Keyed z n) s t whole whole' h k e =
     let p = after_size y z (key_text (net_view m).key) (key_text (net_view n).key) s t whole.0 whole'.0 e in
     let l = same_lines (key_text (net_view m).key) (key_text (net_view n).key) s t (key_line (net_view m).key) (key_line (net_view n).key) p.1 in
@@ -365,7 +369,8 @@ same_outcome o p s t h k e =
     let both = sym (append_assoc a (body_text o.body) s) ∙ e ∙ append_assoc b (body_text p.body) t in
     let l = same_lines a b (body_text o.body ++ s) (body_text p.body ++ t) (header_line o.number o.line (option_copied o.name) h.name)
     (header_line p.number p.line (option_copied p.name) k.name) both in
-    let n = same_header o.number p.number o.line p.line (option_copied o.name) (option_copied p.name) h.whole.number k.whole.number h.whole.line k.whole.line l.0 in
+    let n = same_header o.number p.number o.line p.line (option_copied o.name) (option_copied p.name) h.whole.number k.whole.number
+    h.whole.line k.whole.line l.0 in
     let r = same_body o.body p.body s t h.whole.body k.whole.body h.body k.body l.1 in
     (record { number = n.0; line = n.1; name = n.2; body = r.0 }, r.1)
 
