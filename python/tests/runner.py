@@ -25,6 +25,8 @@ from testing import IS_LONG, TESTS, TOP
 
 OUTCOME = "outcome: "  # begins the last line of a process that has run a file
 HAS_TIMES = os.environ.get("NET_TOOL_TIMES") == "1"
+LONGEST = ("test_install", "test_release", "test_desk_browser", "test_frameworks", "test_package", "test_sources", "test_pictures",
+           "test_files", "test_table", "test_desk_server", "test_deb", "test_shorten", "test_front", "test_desk_answers")
 MOST_LISTED = 10       # of the slowest files and tests
 
 
@@ -144,10 +146,12 @@ def run_apart(file: Path, *names: str, **settings: str) -> Outcome:
 
 
 def files_of(words: list[str]) -> list[Path]:
-    """The files of tests of folders, and those that are named; the long ones first, so that all processors end together."""
+    """The files of tests of folders, and those that are named. The LONGEST of them come first, and then the larger ones, so
+    that all processors end together."""
     paths = [Path(word).resolve() for word in words]
     files = [file for path in paths for file in (sorted(path.glob("test_*.py")) if path.is_dir() else [path])]
-    return sorted(dict.fromkeys(files), key=lambda file: -file.stat().st_size)
+    places = {stem: place for place, stem in enumerate(LONGEST)}
+    return sorted(dict.fromkeys(files), key=lambda file: (places.get(file.stem, len(places)), -file.stat().st_size))
 
 
 @dataclass
@@ -163,7 +167,7 @@ class Run:
             places = {pool.submit(run_apart, file, **settings): file for file in files}
             for done in as_completed(places):
                 self.beside[places[done]] = done.result()
-                tell_outcome(places[done], done.result())
+                tell_outcome(places[done], done.result(), is_alone=len(files) == 1)
         for file, outcome in self.beside.items():
             if outcome.failed:  # one file has been alone already
                 self.alone[file] = run_apart(file, *outcome.failed) if len(files) > 1 else outcome
@@ -194,11 +198,11 @@ def called(file: Path) -> str:
     return os.path.relpath(file, TOP)
 
 
-def tell_outcome(file: Path, outcome: Outcome) -> None:
+def tell_outcome(file: Path, outcome: Outcome, is_alone: bool) -> None:
     """What the tests of a file printed, why some were skipped, which failed, and how long it took if that is asked for."""
     lines = [outcome.printed] if outcome.printed else []
     lines += [f"{called(file)}: skipped {outcome.skipped.count(reason)}: {reason}" for reason in sorted(set(outcome.skipped))]
-    lines += [f"{called(file)}: {name} failed, and is run alone at the end" for name in outcome.failed]
+    lines += [f"{called(file)}: {name} failed, and is run alone at the end" for name in outcome.failed if not is_alone]
     lines += [f"{called(file)}: {outcome.whole}"] * HAS_TIMES
     print("".join(f"{line}\n" for line in lines), end="", flush=True)
 
