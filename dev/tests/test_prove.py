@@ -11,7 +11,7 @@ import sys
 import time
 from pathlib import Path
 
-from testing import TOP, FolderTest, command, long_test, run
+from testing import PATIENCE, TOP, FolderTest, long_test, run
 
 
 def load():
@@ -144,7 +144,7 @@ class FirstAnswer(FolderTest):
         self.assertIn(b"minutes on a machine as", done.stderr)
         note = self.folder / "crates/net_tool/out/net_tool.sum"
         told = [note.read_text().splitlines()[1]]
-        until = time.monotonic() + 300
+        until = time.monotonic() + 4 * PATIENCE
         while told[-1] != "by LLVM" and time.monotonic() < until:
             time.sleep(1)
             told.append((note.read_text().splitlines() if note.exists() else ["", ""])[1])

@@ -6,7 +6,6 @@ import re
 import shutil
 import subprocess
 import tempfile
-import time
 import zipfile
 from pathlib import Path
 
@@ -195,9 +194,9 @@ class Release(FolderTest):
 
     def test_a_clone_answers_in_a_second_with_neither_rt_nor_python3(self):
         clone = self.clone()
-        begun = time.monotonic()
+        begun = sum(os.times()[2:4])
         output, said = self.answer(clone, "key", "x.cgd", more=("setpriv",))
-        self.assertLess(time.monotonic() - begun, 3)  # a second, and beside other work
+        self.assertLess(sum(os.times()[2:4]) - begun, 3)  # a second of a processor, which others use as well
         self.assertEqual(output, "key x.cgd\n")
         self.assertEqual(said.count("\n"), 1)
         self.assertIn("this is the released program, 1.5", said)

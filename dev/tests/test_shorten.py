@@ -10,7 +10,7 @@ import sys
 import time
 from pathlib import Path
 
-from testing import TOP, FolderTest, long_test, need_commands, run
+from testing import PATIENCE, TOP, FolderTest, long_test, need_commands, run
 
 from proof_stages import (  # noqa: E402
     Trial, cited_words, copy_lines, held_of, lemmas_cited, trials_of, with_copies, without, without_lets)
@@ -310,7 +310,7 @@ class Crates(FolderTest):
             time.sleep(0.05)
         time.sleep(0.5)
         process.send_signal(signal.SIGTERM)
-        told = process.communicate(timeout=60)[1]
+        told = process.communicate(timeout=PATIENCE)[1]
         self.assertEqual((process.returncode, self.proofs.read_text()), (130, NUMBERS), told)
         self.assertEqual(self.left_over(), [])
 

@@ -238,6 +238,13 @@ class Answer:
         from .symmetries import symmetry_on
         return symmetry_on(self)
 
+    @property
+    def given_group(self) -> str:
+        """Whether the group of a block CRYSTAL is that of its net, as `Fd-3m, that of the net`, or of which index in it. Empty
+        if the block gives none, or the program lists no symmetries."""
+        from .symmetries import given_group
+        return given_group(self)
+
     @cached_property
     def embedding(self) -> Embedding | None:
         """The standard realization: usual cell and group, positions and edges, each vertex at the mean of its neighbours. It is

@@ -72,12 +72,20 @@ def html_of_answer(answer: Answer) -> str:
     rows = [("net", answer.name), ("names", "; ".join(answer.names)), ("by", "" if answer.accepted else str(answer.by)),
             ("outcome", str(answer.outcome)),
             ("vertices, edges", f"{answer.vertices}, {answer.edges}" if answer.vertices else "")]
-    rows += [("symmetry", _symmetry(answer)), ("RCSR", answer.rcsr)]
+    rows += [("symmetry", _symmetry(answer)), ("group of the block", _given_group(answer)), ("RCSR", answer.rcsr)]
     rows += [("copies", told_copies(answer.copies, answer.interpenetration))]
     sequences = (answer.small or answer).sequences
     rows += [("sequence", " ".join(map(str, sequence))) for sequence in sorted(set(sequences))]
     rows += [("what to do", answer.advice), *_notes(answer.net, answer.notes), ("note", answer.naming.note)]
     return f"<div>{_small(svg_of_answer(answer))}{_table(rows)}</div>"
+
+
+def _given_group(answer: Answer) -> str:
+    """How the group of a block is related to that of its net; nothing if it is not known."""
+    try:
+        return answer.given_group if answer.text else ""
+    except CrystalNetsError:
+        return ""
 
 
 def _symmetry(answer: Answer) -> str:

@@ -67,7 +67,7 @@ def format_of(content: bytes, file: str) -> Format:
     """The format of a file. The JSON of a structure and an archive are known by their texts, whatever their names are, and
     others by their names; if these say nothing, by a mark. What is a structure of another kind by its name is given to the reader of CIF files,
     which says what it is, and all that is left to that of nets."""
-    found = next((form for form in (JSON, ARCHIVE) if form.has_mark(content)), None) or format_of_name(file)
+    found = JSON if JSON.has_mark(content) else ARCHIVE if ARCHIVE.has_mark(content) else format_of_name(file)
     found = found or next((form for form in (POSCAR, CIF) if form.has_mark(content)), None)
     return found or (CIF if is_of_other_kind(file) and not NETS.has_mark(content) else NETS)
 
@@ -78,7 +78,10 @@ def holds_structure(content: bytes, file: str) -> bool:
 
 
 def format_of_name(file: str) -> Format | None:
-    """The format that the name of a file says, packed by gzip or not; None where it says none."""
+    """The format that the name of a file says, packed by gzip or not; None if it says none."""
+    last = file.rfind(".")
+    if last > 0 and file[last - 1] not in "./" and (found := BY_ENDING.get(file[last:])):
+        return found  # the plain case, since the plan of a large folder asks for each name three times
     name = file[file.rfind("/") + 1:].lower().removesuffix(".gz")  # what os.path has takes most of the time of a large folder
     dot = name.rfind(".")
     suffix = name[dot:] if dot > 0 and name[:dot].strip(".") else ""

@@ -100,6 +100,14 @@ class Interpenetration:
         return cls(copies, translational, by_operations, str(fields["symbol"]), str(fields["remark"]))
 
 
+class GivenGroup(NamedTuple):
+    """The group that a block gives its net: its name, and how many operations it has, one for each coset of its
+    translations."""
+
+    name: str
+    order: int
+
+
 def told_copies(copies: int, woven: Interpenetration | None) -> str:
     """Of how many interpenetrating nets alike one is given, with their class where that is known; empty where it is alone."""
     if copies < 2:
@@ -121,7 +129,9 @@ class Provenance:
     file        that it was read from, as it was named; empty where it is of no file
     block       of that file, as a CIF names it
     source      of several that were given: its key or its place; empty where one was given
-    interpenetration  how the nets alike are carried into each other; None where it is of no interpenetrating nets"""
+    interpenetration  how the nets alike are carried into each other; None where it is of no interpenetrating nets
+    group       that a block CRYSTAL or TILING gives; None if it is of no such block. The vertices are those of a primitive
+                cell of this group"""
 
     notes: tuple[Note, ...] = ()
     convention: str = ""
@@ -134,6 +144,7 @@ class Provenance:
     block: str = ""
     source: str = ""
     interpenetration: Interpenetration | None = None
+    group: GivenGroup | None = None
 
     @classmethod
     def from_dict(cls, fields: dict[str, Any]) -> Provenance:
@@ -144,11 +155,12 @@ class Provenance:
                                for part in fields.get("components", ()))
             units = tuple(BuildingUnit(str(unit["vertex"]), str(unit["formula"]), int(unit["connectivity"]),
                                        tuple(map(str, unit["atoms"]))) for unit in fields.get("units", ()))
-            woven = fields.get("interpenetration")
+            woven, group = fields.get("interpenetration"), fields.get("group")
             return cls(notes, str(fields["convention"]), str(fields["made"]), int(fields["copies"]), int(fields["line"]),
                        components, units, str(fields.get("file", "")), str(fields.get("block", "")),
-                       str(fields.get("source", "")), Interpenetration.from_dict(woven) if woven else None)
-        except (KeyError, TypeError, AttributeError) as fault:
+                       str(fields.get("source", "")), Interpenetration.from_dict(woven) if woven else None,
+                       GivenGroup(str(group[0]), int(group[1])) if group else None)
+        except (KeyError, IndexError, TypeError, AttributeError) as fault:
             raise ValueError(f"no provenance: {fault}") from None
 
     def to_dict(self) -> dict[str, Any]:

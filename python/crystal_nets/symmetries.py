@@ -199,6 +199,25 @@ def symmetry_if_told(graph: QuotientGraph) -> NetSymmetry | None:
         return None
 
 
+def given_group(answer: Answer) -> str:
+    """Whether the group that a block gives is that of its net; empty if it gives none, or the program lists no symmetries."""
+    found = answer.symmetry if answer.net.provenance.group else None
+    return told_group(answer.net, found.order, len(found.graph.vertices)) if found else ""
+
+
+def told_group(net: Net, order: int, vertices: int) -> str:
+    """Whether the group that the block of a net gives is that of the net, which has so many operations and vertices in its
+    primitive cell: `Fd-3m, that of the net`, or `P 21 21 21, of index 12 in that of the net`. Empty if it gives none.
+
+    The block has the vertices of a primitive cell of its group, and the net those of a smaller one at times: the index
+    counts the operations of both for one vertex."""
+    given = net.provenance.group
+    if not given or not order:
+        return ""
+    index = Fraction(order * len(net.graph.vertices), given.order * vertices)
+    return f"{given.name}, that of the net" if index == 1 else f"{given.name}, of index {index} in that of the net"
+
+
 def symmetry_on(answer: Answer) -> NetSymmetry | None:
     """The symmetries of the net of an answer, in its smaller cell if it has a key in that alone."""
     if answer.key:

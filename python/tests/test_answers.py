@@ -10,7 +10,7 @@ from concurrent.futures import ThreadPoolExecutor
 from contextlib import closing
 from fractions import Fraction
 
-from testing import PROGRAM, TOP, FolderTest, need_modules, need_program, run
+from testing import PATIENCE, PROGRAM, TOP, FolderTest, need_modules, need_program, run
 
 from crystal_nets import (Answer, Answers, Archive, By, Net, NotAnArchive, NotANet, Outcome, ProgramFailed,  # noqa: E402
                           components, cover, group, identify, identify_all, identify_each, keys, net_of_key, read, same, svg)
@@ -177,14 +177,14 @@ class Streams(AnswerTest):
     def test_one_that_is_not_asked_for_more_ends_at_once(self):
         """Whatever the program is busy with."""
         slow = self.folder / "slow"
-        slow.write_text(f"#!/bin/sh\n[ -e {self.folder}/begun ] && exec sleep 5\ntouch {self.folder}/begun\nexec {PROGRAM} \"$@\"\n")
+        slow.write_text(f"#!/bin/sh\n[ -e {self.folder}/begun ] && exec sleep {2 * PATIENCE}\ntouch {self.folder}/begun\nexec {PROGRAM} \"$@\"\n")
         slow.chmod(0o755)
         with unittest.mock.patch.dict("os.environ", NET_TOOL=str(slow)):
             answers = identify_each((DIA for _ in range(64 * 9)), archive=None, processes=1)
             next(answers)
             begun = time.monotonic()
             answers.close()
-        self.assertLess(time.monotonic() - begun, 1)
+        self.assertLess(time.monotonic() - begun, PATIENCE)
 
     def test_a_net_that_takes_too_long_is_stopped_alone(self):
         slow = self.folder / "slow"

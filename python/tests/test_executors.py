@@ -7,14 +7,13 @@ import os
 import shutil
 import subprocess
 import sys
-import time
 from concurrent.futures import BrokenExecutor, Executor, Future, ProcessPoolExecutor, ThreadPoolExecutor
 from concurrent.futures.process import BrokenProcessPool
 from multiprocessing import get_context
 from pathlib import Path
 
-from executed import SQUARE, Broken, BrokenTwice, Deadly, Watched, squares
-from testing import PROGRAM, TESTS, TOP, FolderTest, need_commands, need_modules, need_program
+from executed import SQUARE, Broken, BrokenTwice, Deadly, squares
+from testing import PATIENCE, PROGRAM, TESTS, TOP, FolderTest, need_commands, need_modules, need_program
 
 need_program()
 from crystal_nets import Archive, Net, NotAJournal, ProgramNotFound, identify_all, identify_each, keys, read  # noqa: E402
@@ -252,8 +251,9 @@ class Clusters(ExecutorTest):
     def script(self, text: str, *words: str, before: tuple[str, ...] = ()) -> list[object]:
         path = self.folder / "script.py"
         path.write_text(text)
-        done = subprocess.run([*before, str(path), *words], capture_output=True, timeout=240, cwd=self.folder,
-                              env={**os.environ, "NET_TOOL": PROGRAM, "PYTHONPATH": os.pathsep.join([*sys.path, str(TESTS)])})
+        done = subprocess.run([*before, str(path), *words], capture_output=True, timeout=PATIENCE, cwd=self.folder,
+                              env={**os.environ, "NET_TOOL": PROGRAM, "PYTHONPATH": os.pathsep.join([*sys.path, str(TESTS)]),
+                                   "DASK_DISTRIBUTED__COMM__TIMEOUTS__CONNECT": f"{PATIENCE}s"})
         self.assertEqual(done.returncode, 0, done.stderr[-2000:].decode())
         return json.loads(done.stdout.splitlines()[-1])
 

@@ -1,12 +1,11 @@
 """What the commands do where an output is full or closed, where a package is missing, and where the time is over."""
 
-import subprocess
 import sys
 import time
 import unittest
 import unittest.mock
 
-from testing import TOP, FolderTest, command, ends_soon, need_modules, run
+from testing import PATIENCE, TOP, FolderTest, command, need_modules, run, running_with, wait_until
 
 import crystal_nets
 from crystal_nets import Archive, Net, NetMap, ProgramTimedOut
@@ -58,11 +57,10 @@ class Interpreters(FolderTest):
 class Times(FolderTest):
     def setUp(self):
         super().setUp()
-        self.number = self.folder / "number"
-        program = self.folder / "program"
-        program.write_text(f"#!/bin/sh\necho $$ >'{self.number}'\nexec sleep 60\n")
-        program.chmod(0o755)
-        patch = unittest.mock.patch.dict("os.environ", NET_TOOL=str(program))
+        self.program = self.folder / "program"
+        self.program.write_text(f"#!/bin/sh\nexec sleep {2 * PATIENCE}\n")
+        self.program.chmod(0o755)
+        patch = unittest.mock.patch.dict("os.environ", NET_TOOL=str(self.program))
         patch.start()
         self.addCleanup(patch.stop)
 
@@ -81,9 +79,9 @@ class Times(FolderTest):
             begun = time.monotonic()
             with self.assertRaises(ProgramTimedOut) as caught:
                 call()
-            self.assertLess(time.monotonic() - begun, 30)
+            self.assertLess(time.monotonic() - begun, PATIENCE)
             self.assertEqual(caught.exception.seconds, 0.3)
-            self.assertTrue(ends_soon(int(self.number.read_text())))
+            wait_until(lambda: not running_with(f"NET_TOOL={self.program}"), "the program runs on")
 
     def test_timeouts_that_are_none(self):
         for timeout in (0, -1, float("nan"), "1"):

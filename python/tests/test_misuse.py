@@ -5,14 +5,18 @@ from __future__ import annotations
 import os
 import subprocess
 import sys
+import tempfile
 import threading
 import time
+import unittest.mock
+from pathlib import Path
 
-from testing import PROGRAM, TOP, FolderTest, need_modules, need_program
+from testing import PATIENCE, PROGRAM, TOP, FolderTest, need_modules, need_program
 
 need_program()
 import crystal_nets  # noqa: E402
 from crystal_nets import By, Net, NotAnArchive, identify, identify_all, identify_each, keys, same  # noqa: E402
+from crystal_nets.reading import nets_of_cif  # noqa: E402
 
 SQUARE = Net([(1, 1, (1, 0)), (1, 1, (0, 1))], name="square")
 COMMON = TOP / "archives/common.archive"
@@ -66,7 +70,7 @@ class Options(FolderTest):
 class StandardFiles(FolderTest):
     def test_each_call_without_a_standard_file(self):
         for closed in ("<&-", ">&-", "2>&-", "<&- >&- 2>&-"):
-            done = subprocess.run(["sh", "-c", f'exec "$0" -c "$1" {closed}', sys.executable, CALLS], timeout=120,
+            done = subprocess.run(["sh", "-c", f'exec "$0" -c "$1" {closed}', sys.executable, CALLS], timeout=PATIENCE,
                                   env={**os.environ, "NET_TOOL": PROGRAM, "PYTHONPATH": os.pathsep.join(sys.path)})
             self.assertEqual(done.returncode, 0, closed)
 
@@ -80,16 +84,16 @@ class Forks(FolderTest):
         def hold():
             with archive._loading:
                 started.set()
-                release.wait(20)
+                release.wait(2 * PATIENCE)
 
         thread = threading.Thread(target=hold)
         thread.start()
-        started.wait(20)
+        started.wait(PATIENCE)
         child = os.fork()
         if not child:
             os._exit(0 if crystal_nets.Archive.default() else 1)
         try:
-            until = time.monotonic() + 30
+            until = time.monotonic() + PATIENCE
             while (ended := os.waitpid(child, os.WNOHANG)) == (0, 0) and time.monotonic() < until:
                 time.sleep(0.05)
             self.assertEqual(ended, (child, 0))
@@ -98,8 +102,6 @@ class Forks(FolderTest):
             thread.join()
             if ended == (0, 0):
                 os.kill(child, 9)
-
-
 
 
 class SideBySide(FolderTest):
@@ -119,8 +121,16 @@ class SideBySide(FolderTest):
             identify_all([quartz, 7], processes=2)
 
     def test_a_sequence_that_is_left_early_ends_its_processes(self):
-        answers = identify_each([TOP / "examples/quartz.cif"] * 200, archive=None, processes=2)
-        next(answers)
-        begun = time.monotonic()
-        answers.close()
-        self.assertLess(time.monotonic() - begun, 5)
+        """Not all is read, and no process is left."""
+        def noted(*words):
+            tempfile.mkstemp(dir=self.folder)
+            return nets_of_cif(*words)
+
+        children = Path(f"/proc/{os.getpid()}/task/{threading.get_native_id()}/children")
+        before = children.read_text()
+        with unittest.mock.patch("crystal_nets.reading.nets_of_cif", noted):
+            answers = identify_each([TOP / "examples/quartz.cif"] * 400, archive=None, processes=2)
+            next(answers)
+            answers.close()
+        self.assertEqual(children.read_text(), before)
+        self.assertLess(len(list(self.folder.iterdir())), 400)

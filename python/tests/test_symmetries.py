@@ -152,6 +152,27 @@ class Answers(unittest.TestCase):
         self.assertEqual((found.space_group, found.told_symmetry), ("P42/mnm", "P42/mnm, 2 kinds of vertices, 2 of edges"))
 
 
+class GivenGroups(unittest.TestCase):
+    """The cubic net and the square net in groups and cells of their own choice: the index is that of the operations, which
+    are 48 and 8 for each vertex."""
+
+    def test_the_group_of_a_block_is_compared_with_that_of_the_net(self):
+        need_modules("numpy", "gemmi")
+        corner, half = ["0 0 0"], ["0 0 0", "0.5 0 0", "0.5 0.5 0", "0.5 0.5 0.5"]
+        for group, cell, nodes, told in (
+                ("Pm-3m", "1 1 1 90 90 90", corner, "that of the net"), ("P1", "1 1 1 90 90 90", corner, "of index 48 in"),
+                ("Pm-3m", "2 2 2 90 90 90", half, "of index 8 in"), ("Im-3m", "2 2 2 90 90 90", half[:2], "of index 4 in"),
+                ("p4mm", "1 1 90", ["0 0"], "that of the net"), ("p4", "1 1 90", ["0 0"], "of index 2 in")):
+            degree = 2 * len(nodes[0].split())
+            rows = "".join(f"NODE {k} {degree} {place}\n" for k, place in enumerate(nodes, start=1))
+            answer = identify(f"CRYSTAL\nNAME x\nGROUP {group}\nCELL {cell}\n{rows}END\n", archive=None)
+            self.assertIn(told, answer.given_group, (group, cell, answer))
+            self.assertIn(told, answer._repr_html_())
+            again = type(answer.net.provenance).from_dict(answer.net.provenance.to_dict())
+            self.assertEqual(again.group, answer.net.provenance.group)
+        self.assertEqual(identify(NETS["dia"], archive=None).given_group, "")
+
+
 class Reports(FolderTest):
     def test_cut_and_changed_reports_are_refused(self):
         block = NETS["kgm"].block

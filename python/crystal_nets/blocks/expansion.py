@@ -5,7 +5,7 @@ from __future__ import annotations
 import numpy as np
 from ..graph import QuotientGraph
 from ..net import Net
-from ..provenance import DOUBT, Note
+from ..provenance import DOUBT, GivenGroup, Note
 from ..refusal import Refused
 from ..structures.nets.pieces import is_one_piece
 
@@ -65,7 +65,8 @@ def _net_within(tolerance: float, crystal: CrystalBlock, notes: list[str | Note]
             raise Refused(f"the node {shown(node.name)} has {found} neighbours{by_edges}, {node.degree} are stated",
                           node.line)
     notes += check_parts(crystal.stated, orbits)
-    return net_made(crystal.name, crystal.dimension, places.names, orbits.edges, f"{crystal.group.name}, {made}")
+    given = GivenGroup(crystal.group.name, len(crystal.group.rotations))
+    return net_made(crystal.name, crystal.dimension, places.names, orbits.edges, f"{given.name}, {made}", given)
 
 
 def _lack_some(orbits: Orbits) -> bool:

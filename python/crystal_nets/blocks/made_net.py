@@ -6,7 +6,7 @@ from collections.abc import Iterable
 
 from ..graph import Edge, QuotientGraph
 from ..net import Net
-from ..provenance import Provenance
+from ..provenance import GivenGroup, Provenance
 from ..refusal import Refused
 from ..texts.graph_text import written_labels, written_name
 from ..texts.net_text import GREATEST_SHIFT, MOST_EDGES, MOST_VERTICES
@@ -14,12 +14,13 @@ from ..texts.net_text import GREATEST_SHIFT, MOST_EDGES, MOST_VERTICES
 from .tokens import shown
 
 
-def net_made(name: str, dimension: int, vertices: list[str], edges: Iterable[Edge], made: str) -> Net:
+def net_made(name: str, dimension: int, vertices: list[str], edges: Iterable[Edge], made: str,
+             group: GivenGroup | None = None) -> Net:
     """The net of vertices and edges, and how they were made; refused where it is past a limit."""
     graph = QuotientGraph.of(vertices, edges, dimension)
     _check_limits(graph)
     labels = written_labels(vertices)
-    return Net.of_graph(QuotientGraph(labels, graph.edges, dimension, written_name(name)), name, Provenance(made=made))
+    return Net.of_graph(QuotientGraph(labels, graph.edges, dimension, written_name(name)), name, Provenance(made=made, group=group))
 
 
 def _check_limits(graph: QuotientGraph) -> None:

@@ -12,6 +12,7 @@ from fractions import Fraction
 
 from ..graph import Edge, edge
 from ..net import Net
+from ..provenance import GivenGroup
 from ..refusal import Refused
 from ..texts.net_text import MOST_EDGES, MOST_VERTICES
 
@@ -56,7 +57,8 @@ def symbolic_net(fields: Fields) -> Net:
         if len(edges) > MOST_EDGES:
             raise row.refused(f"more than {MOST_EDGES} edges in a primitive cell")
     vertices.check_degrees(edges)
-    return net_made(fields.name, dimension, vertices.names, edges, f"{group.name}, edges by operations")
+    given = GivenGroup(group.name, len(group.rotations))
+    return net_made(fields.name, dimension, vertices.names, edges, f"{given.name}, edges by operations", given)
 
 
 def _dimension(fields: Fields) -> int:

@@ -60,11 +60,11 @@ def main() -> int:
     workers.start()
     with (Service(listener, workers, [path.absolute() for path in asked.files]) as service,
           tempfile.TemporaryDirectory(prefix="net_tool_desk.", ignore_cleanup_errors=True) as folder):
-        print(f"{called()}: {service.address}\n{called()}: Ctrl-C ends it", flush=True)
-        if not asked.no_browser:
-            path = write_leading_file(folder, service.address)
-            threading.Thread(target=open_browser, args=(path,), daemon=True).start()
         try:
+            print(f"{called()}: {service.address}\n{called()}: Ctrl-C ends it", flush=True)
+            if not asked.no_browser:
+                path = write_leading_file(folder, service.address)
+                threading.Thread(target=open_browser, args=(path,), daemon=True).start()
             service.serve(lambda: ending.has_come)
         except KeyboardInterrupt:  # once is enough: the rest ends what runs
             for name in ENDS:

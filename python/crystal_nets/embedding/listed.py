@@ -8,7 +8,8 @@ from functools import cached_property
 import numpy as np
 
 from ..graph import Edge, QuotientGraph
-from ..texts.symmetry_text import Row, SymmetryReport
+from ..texts.report_lines import Row
+from ..texts.symmetry_text import SymmetryReport
 
 from .metric import short_basis, standard_gram
 from .placed import Placed, into_cell, marks

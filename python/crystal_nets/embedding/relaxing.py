@@ -151,7 +151,7 @@ def _symmetric(shape: Placed, gram: np.ndarray, net: Placed, found: list[Symmetr
     for symmetry in found:
         moved[symmetry.to] += steps @ symmetry.turn / len(found)
         metric += symmetry.turn @ gram @ symmetry.turn.T / len(found)
-    placed = Placed(net.places + moved, net.edges)
+    placed, metric = Placed(net.places + moved, net.edges), (metric + metric.T) / 2
     return placed, metric / _lengths(placed, metric).mean() ** 2
 
 

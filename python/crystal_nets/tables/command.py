@@ -32,7 +32,7 @@ from .made import made_by, told_difference
 from .parquet import need_pyarrow, write_parquet
 from .piece import Made, make_rows, path_of, rows_of, was_gone
 from .plan import Plan, Portion, Settings, check_source, pieces_of, read_plan, write_plan
-from .source import Failed, SourceAway, State, files_of, state_of
+from .source import Failed, SourceAway, State, files_of, path_from, state_of
 
 DESCRIPTION = """The table of all nets of a source: a folder of structure files (.cif and others) and files of nets (.cgd,
 .arc), each packed by gzip or not, or one such file, with any number of nets. FOLDER gets table.tsv, a line for each net;
@@ -182,7 +182,7 @@ def write_new_plan(path: Path, settings: Settings) -> None:
 def _taken(files: Iterator[str], at: str, state: State, bar: Progress) -> Iterator[str]:
     """The files, of which the state is taken before they are read."""
     for file in files:
-        state.take(file, os.path.join(at, file))
+        state.take(file, path_from(file, at))
         yield file
         bar.step()
 

@@ -16,7 +16,7 @@ from pathlib import Path
 from typing import Any, NamedTuple, NotRequired, TypedDict, overload
 
 from ..file_parts import is_read_whole, parts_of, sum_of
-from .source import Failed, SourceAway, changed, files_of, state_of
+from .source import Failed, SourceAway, changed, files_of, path_from, state_of
 
 FORM = "net_table 6"
 MOST_BLOCKS = 1_000      # of a piece: few enough that little is lost if a run breaks off
@@ -314,7 +314,7 @@ def portions_of(files: Iterable[str], at: str, most_blocks: int) -> Iterator[tup
     as none. A file that cannot be read has one that is read later."""
     for file in files:
         try:
-            yield from _portions_of(file, os.path.join(at, file), most_blocks)
+            yield from _portions_of(file, path_from(file, at), most_blocks)
         except OSError:
             yield Portion(file, 0, 0, 0, UNSEEN, "", 0), 0
 

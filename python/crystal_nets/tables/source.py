@@ -48,6 +48,11 @@ def files_of(source: Path, at: str = "", tell: Callable[[str], object] = lambda 
         tell(f"{source}: {told_passed_over(passed, count)}")
 
 
+def path_from(file: str, at: str) -> str:
+    """The path of a file that is given from a folder. In a large one os.path.join takes as long as opening does."""
+    return f"{at}/{file}" if at and not file.startswith("/") else file
+
+
 def _raise(fault: OSError) -> NoReturn:
     raise fault
 
@@ -83,7 +88,7 @@ def state_of(files: Iterable[str], at: str = "") -> str:
     """The sum of the state of these files."""
     state = State()
     for file in files:
-        state.take(file, os.path.join(at, file))
+        state.take(file, path_from(file, at))
     return state.sum
 
 

@@ -6,9 +6,10 @@ import re
 from collections.abc import Iterable, Iterator
 from dataclasses import dataclass, field
 
-from .net_text import GRAPH, HEADER, LIST, MALFORMED, REASONS, VERTEX, NoReport, key_numbers
+from .net_text import GRAPH, LIST, MALFORMED, REASONS, VERTEX, key_numbers
+from .report_lines import COUNT, NET_LINE, Lines
 
-COUNT = rb"([1-9]\d{0,17})"
+COMPONENTS = re.compile(rb"components " + COUNT)
 PART = re.compile(rb"part %s vertices=%s copies=%s" % (COUNT, COUNT, COUNT))
 WHOLE_REFUSALS = tuple(re.compile(form) for form in (
     rb"components refused 1 LowRank u=" + VERTEX + rb" c=" + LIST,
@@ -37,39 +38,16 @@ class NetParts:
 
 def parts_of_report(lines: Iterable[bytes]) -> Iterator[NetParts]:
     """The nets of the report, each whole. NoReport with the first line that may not stand there."""
-    source = Lines(lines)
+    source = Lines(lines, "components")
     number = 0
-    while (line := source.next()) is not None:
-        header = HEADER.fullmatch(line)
-        if header is None or int(header[1]) != number + 1:
+    while not source.are_over:
+        header = source.matched(NET_LINE)
+        if int(header[1]) != number + 1:
             raise source.fault()
         number += 1
         net = NetParts(number, header[3] or b"")
         _read(net, source)
         yield net
-
-
-class Lines:
-    """Lines one after the other, with the number of the last one."""
-
-    def __init__(self, lines: Iterable[bytes]) -> None:
-        self.lines, self.count, self.last = iter(lines), 0, b""
-
-    def next(self) -> bytes | None:
-        line = next(self.lines, None)
-        self.count, self.last = self.count + 1, line or b""
-        return line
-
-    def text(self) -> bytes:
-        """The next line, which is to be whole, without its line feed."""
-        line = self.next()
-        if line is None or not line.endswith(b"\n"):
-            raise self.fault()
-        return line[:-1]
-
-    def fault(self) -> NoReport:
-        told = f"{self.last[:60]!r} may not stand in a report of components, or is cut"
-        return NoReport(f"line {self.count}: {told}")
 
 
 def _read(net: NetParts, source: Lines) -> None:
@@ -85,15 +63,15 @@ def _read(net: NetParts, source: Lines) -> None:
     if any(form.fullmatch(line) for form in WHOLE_REFUSALS):
         net.told = line
         return
-    count = re.fullmatch(rb"components " + COUNT, line)
+    count = COMPONENTS.fullmatch(line)
     if count is None or int(count[1]) > int(graph[2]):
         raise source.fault()
     net.parts = [_part(number, int(graph[1]), source) for number in range(1, int(count[1]) + 1)]
 
 
 def _part(number: int, dimension: int, source: Lines) -> Part:
-    found = PART.fullmatch(source.text())
-    if found is None or int(found[1]) != number:
+    found = source.matched(PART)
+    if int(found[1]) != number:
         raise source.fault()
     part = Part(number, int(found[3]))
     line = source.text()

@@ -6,16 +6,14 @@ import re
 from collections.abc import Iterable
 from dataclasses import dataclass
 
-from .net_text import GRAPH, HEADER, LIST, NoReport
+from .net_text import GRAPH, LIST
+from .report_lines import COUNT, NET_LINE, Lines, Row, row_of
 
-COUNT = rb"([1-9]\d{0,17})"
-HEADER_LINE = re.compile(HEADER.pattern.removesuffix(rb"\n"))
 GRAPH_LINE = re.compile(rb"graph " + GRAPH.pattern)
 PRIMITIVE = re.compile(rb"primitive vertices=%s edges=%s" % (COUNT, COUNT))
 VERTEX_ORBIT = re.compile(rb"orbit %s size=%s order=%s" % (COUNT, COUNT, COUNT))
 EDGE_ORBIT = re.compile(rb"orbit (%s) size=%s" % (LIST, COUNT))
 WITHOUT_GROUP = (b"unsupported ", b"malformed ", b"refused ")  # begin the line of a block that has no key
-Row = tuple[int, ...]
 
 
 @dataclass(frozen=True)
@@ -57,8 +55,8 @@ class SymmetryReport:
 def symmetry_of_report(lines: Iterable[bytes]) -> SymmetryReport | None:
     """What is reported of the one net of a report; None if it has no key, or its primitive graph is past the limits. NoReport
     with the first line that may not stand there."""
-    source = _Lines(lines)
-    source.matched(HEADER_LINE)
+    source = Lines(lines, "symmetry")
+    source.matched(NET_LINE)
     if source.is_next(*WITHOUT_GROUP):
         return None
     dimension = int(source.matched(GRAPH_LINE)[1])
@@ -78,50 +76,4 @@ def symmetry_of_report(lines: Iterable[bytes]) -> SymmetryReport | None:
     source.end()
     return SymmetryReport(basis, edges, key, denominator, tuple(row[1:] for row in places), operations,
                           tuple(ToldOrbit(*map(int, found.groups())) for found in vertices),
-                          tuple((_row(found[1], dimension + 2), int(found[2])) for found in edge_orbits))
-
-
-class _Lines:
-    """The lines of a report one after the other, without their line feeds."""
-
-    def __init__(self, lines: Iterable[bytes]) -> None:
-        self.lines = list(lines)
-        self.place = 0
-
-    def is_next(self, *words: bytes) -> bool:
-        return self.place < len(self.lines) and self.lines[self.place].startswith(words)
-
-    def matched(self, form: re.Pattern[bytes]) -> re.Match[bytes]:
-        line = self.lines[self.place] if self.place < len(self.lines) else b""
-        found = form.fullmatch(line[:-1]) if line.endswith(b"\n") else None
-        if found is None:
-            raise self.fault()
-        self.place += 1
-        return found
-
-    def after(self, word: bytes) -> bytes:
-        """What follows a word in the next line."""
-        return self.matched(re.compile(re.escape(word) + rb"(.*)"))[1]
-
-    def count(self, word: bytes) -> int:
-        return int(self.matched(re.compile(re.escape(word) + COUNT))[1])
-
-    def rows(self, word: bytes, count: int, length: int) -> tuple[Row, ...]:
-        """So many lines of whole numbers after a word."""
-        form = re.compile(re.escape(word) + rb" (%s)" % LIST)
-        return tuple(_row(self.matched(form)[1], length) for _ in range(count))
-
-    def end(self) -> None:
-        if self.place < len(self.lines):
-            raise self.fault()
-
-    def fault(self) -> NoReport:
-        line = self.lines[self.place] if self.place < len(self.lines) else b""
-        return NoReport(f"line {self.place + 1}: {line[:60]!r} may not stand in a report of symmetry, or is cut")
-
-
-def _row(text: bytes, length: int) -> Row:
-    numbers = tuple(map(int, text.split()))
-    if len(numbers) != length:
-        raise NoReport(f"{text[:60]!r} has not {length} numbers")
-    return numbers
+                          tuple((row_of(found[1], dimension + 2), int(found[2])) for found in edge_orbits))

@@ -4,11 +4,10 @@ from __future__ import annotations
 
 import shutil
 import tempfile
-import time
 import unittest
 
 from desk import Server, memory_for_program, need_desk
-from testing import TOP, need_commands, need_modules
+from testing import PATIENCE, TOP, need_commands, need_modules, wait_until
 
 need_desk()
 need_modules("selenium")
@@ -22,7 +21,6 @@ from selenium.webdriver.common.by import By  # noqa: E402
 
 EXAMPLES = TOP / "examples"
 WORDS = ("--headless=new", "--no-sandbox", "--disable-gpu", "--disable-dev-shm-usage", "--window-size=1300,1000")
-PATIENCE = 150  # seconds, for a machine that has much to do
 # Drops files on the page, as the browser does where they are dragged there.
 DROP = """const data = new DataTransfer();
 for (const [name, text] of arguments[0]) data.items.add(new File([text], name));
@@ -93,10 +91,7 @@ class InBrowser(unittest.TestCase):
         return self.driver.find_elements(By.CSS_SELECTOR, selector)
 
     def until(self, what, told: str = "") -> None:
-        end = time.monotonic() + PATIENCE
-        while not what():
-            self.assertLess(time.monotonic(), end, told or "it takes too long")
-            time.sleep(0.05)
+        wait_until(what, told or "it does not come")
 
     def drop(self, *names: str) -> None:
         """Drops files of the examples, and waits for all cards."""

@@ -16,7 +16,7 @@ import uuid
 from pathlib import Path
 from urllib.parse import urlsplit
 
-from testing import PROGRAM, TOP, command, need_modules, need_program
+from testing import PATIENCE, PROGRAM, TOP, command, need_modules, need_program
 
 DESK = command("desk")
 PLENTY = 1 << 26  # MB: a program that was compiled to find its own faults takes addresses of terabytes
@@ -59,7 +59,7 @@ class Server:
         """Status, headers and body of an answer; the path follows the token where it does not begin with a slash."""
         given = {name.replace("_", "-"): value for name, value in headers.items()}
         sent = {"Host": self.host, "Origin": self.origin, **given}
-        connection = http.client.HTTPConnection(self.host, timeout=200)
+        connection = http.client.HTTPConnection(self.host, timeout=PATIENCE)
         try:
             connection.putrequest(method, path if path.startswith("/") else self.path + path, skip_host=True,
                                   skip_accept_encoding=True)
@@ -103,7 +103,7 @@ class Server:
 
     def wait(self) -> tuple[int, str, str]:
         try:
-            told = self.process.communicate(timeout=100)
+            told = self.process.communicate(timeout=PATIENCE)
         except subprocess.TimeoutExpired:
             self.process.kill()
             told = self.process.communicate()

@@ -429,12 +429,18 @@ class Stopped(FolderTest):
         program.chmod(0o755)
         return str(program)
 
-    def test_time_and_memory(self):
-        workers = Workers(Limits(1, 900 << 20), most=2)
+    def workers(self, seconds: int) -> Workers:
+        workers = Workers(Limits(seconds, 900 << 20), most=2)
         workers.start()
         self.addCleanup(workers.close)
+        return workers
+
+    def test_time(self):
         with self.assertRaisesRegex(NoAnswer, "stopped after 1 seconds"):
-            workers.ask(for_ever)
+            self.workers(1).ask(for_ever)
+
+    def test_memory_and_other_ends(self):
+        workers = self.workers(60)
         self.assertIn("more than 900 MB", json.loads(workers.ask(all_memory))["reason"])
         with self.assertRaisesRegex(NoAnswer, "ended from outside, by SIGKILL"):
             workers.ask(end_myself)

@@ -3,12 +3,11 @@
 import csv
 import io
 import re
-import time
 import unittest
 import zipfile
 from pathlib import Path
 
-from browser import DROP, EXAMPLES, PATIENCE, InBrowser
+from browser import DROP, EXAMPLES, InBrowser
 from desk import Server, memory_for_program
 from selenium.webdriver import ActionChains, Keys
 from selenium.webdriver.common.by import By
@@ -131,13 +130,14 @@ class Browser(InBrowser):
     def test_what_is_read_can_be_stopped_and_goes_on(self):
         text = (EXAMPLES.parent / "archives/common.cgd").read_text()
         nets = blocks_in(text)
-        self.driver.execute_script("""const wait = window.fetch;  // each answer comes late, so that there is time for the button
-            window.fetch = async (...given) => { await new Promise(done => setTimeout(done, 400)); return wait(...given); };""")
+        self.driver.execute_script("""const inner = window.fetch, opened = new Promise(done => { window.open = done; });
+            window.fetch = async (...given) => { if (given[0] === 'rows') await opened; return inner(...given); };""")
         self.driver.execute_script(DROP, [["common.cgd", text * 8]])
         stop = self.driver.find_element(By.ID, "stop")
-        self.until(lambda: re.search(rf"(24|[1-9]\d\d+) of {8 * nets:,} nets", self.driver.find_element(By.ID, "progress").text))
+        self.until(lambda: f"24 of {8 * nets:,} nets" in self.driver.find_element(By.ID, "progress").text)
         stop.click()
         self.until(lambda: not stop.is_displayed())
+        self.driver.execute_script("window.open()")
         self.assertIn("was stopped", self.driver.find_element(By.ID, "stopped").text)
         stopped = "return modules.sources.sources[0].entries.filter(entry => entry.state === 'stopped').length"
         self.assertGreater(self.driver.execute_script(stopped), 0)
@@ -149,10 +149,8 @@ class Browser(InBrowser):
     def test_a_hundred_files_in_their_order(self):
         names = [f"{k:03}{name}" for k in range(25) for name in ("sql.cgd", "quartz.cif", "dia.cgd", "srs.cgd")]
         files = [[name, (EXAMPLES / name[3:]).read_text()] for name in names]
-        begun = time.monotonic()
         self.driver.execute_script(DROP, files)
         self.ready(100)
-        self.assertLess(time.monotonic() - begun, 100)  # a second a file
         self.assertEqual(self.files(), names)
         self.assertLess(self.driver.execute_script("return document.documentElement.scrollHeight / innerHeight"), 5)
         self.assertEqual(self.all("article"), [])
@@ -184,7 +182,6 @@ class Browser(InBrowser):
         nets = times * blocks_in(blocks)
         self.driver.execute_script("""const sent = window.sent = [], inner = window.fetch;
             window.fetch = (path, request) => { sent.push([path, !!request?.body?.get?.('file')]); return inner(path, request); };""")
-        begun = time.monotonic()
         self.driver.execute_script(DROP, [["many.cgd", blocks * times]])
         self.ready(1)
         self.assertEqual(self.driver.find_element(By.ID, "counts").text, f"{nets:,} nets")
@@ -193,7 +190,6 @@ class Browser(InBrowser):
         self.assertRegex(self.driver.find_element(By.ID, "page").text, f"rows 1 to 100 of {nets:,}")
         self.driver.find_element(By.ID, "after").click()
         self.assertRegex(self.driver.find_element(By.ID, "page").text, f"rows 101 to 200 of {nets:,}")
-        self.assertLess(time.monotonic() - begun, PATIENCE)
 
     def test_small_pictures_on_demand(self):
         self.drop("mystery.cgd", "sql.cgd")

@@ -4,21 +4,21 @@ import os
 import signal
 import socket
 import subprocess
+import sys
 import threading
 import time
-from collections.abc import Callable, Iterator
+from collections.abc import Iterator
 from contextlib import contextmanager
 from functools import partial
 from pathlib import Path
 from unittest import mock
 
 from desk import DESK, Server, form_of, need_desk
-from testing import PROGRAM, FolderTest, command, run
+from testing import PATIENCE, PROGRAM, TOP, FolderTest, is_running, run, wait_until
 
 need_desk()
 
 ENDLESS = 86_399  # seconds
-PATIENCE = 120    # seconds, for a machine that has much to do
 SQL = b"PERIODIC_GRAPH\nEDGES\n1 1 1 0\n1 1 0 1\nEND\n"
 
 
@@ -75,10 +75,7 @@ class Beginning(FolderTest):
                            f"cat \"${{1#file://}}\" >>{self.folder}/told.part; mv {self.folder}/told.part {self.folder}/told\n")
         browser.chmod(0o755)
         server = Server(browser=True, BROWSER=f"{browser} %s", TMPDIR=str(self.folder))
-        for _ in range(600):
-            if (self.folder / "told").exists():
-                break
-            time.sleep(0.1)
+        wait_until((self.folder / "told").exists)
         address, mode, page = (self.folder / "told").read_text().split("\n", 2)
         path = Path(address.removeprefix("file://"))
         folder_mode = path.parent.stat().st_mode & 0o777
@@ -113,10 +110,10 @@ class Beginning(FolderTest):
                                    env={name: value for name, value in os.environ.items() if name not in screens})
         told = process.stderr.readline()
         process.send_signal(signal.SIGINT)
-        out, rest = process.communicate(timeout=60)
+        out, rest = process.communicate(timeout=PATIENCE)
         self.assertIn("no browser was found; open the address above", told)
         self.assertEqual(rest, "")
-        self.assertIn(process.returncode, (0, 130))  # 130, if the interrupt comes before the server serves
+        self.assertEqual(process.returncode, 0)
         self.assertTrue(out.startswith("net_tool desk: http://127.0.0.1:"))
 
 
@@ -135,7 +132,8 @@ class End(FolderTest):
         server = Server(NET_TOOL=str(self.program))
         body, kind = form_of({"file": ("a.cgd", SQL), "convention": "auto", "choices": "[]"})
         with server.begun("nets", body, kind):
-            children = wait_for(lambda: {*server.children()}, lambda found: any(map(is_endless, found)))
+            wait_until(lambda: any(map(is_endless, server.children())))
+            children = server.children()
             self.assertGreaterEqual(len(children), 4)  # the server of forks, its tracker, a worker, the program
             yield server, children
 
@@ -145,14 +143,14 @@ class End(FolderTest):
             with self.at_work() as (server, children):
                 status, _, told = server.end(name)
             self.assertEqual((status, told), (0, ""), told)
-            self.assertEqual(left_of(children), set())
+            wait_until(lambda: not any(map(is_running, children)), "some go on")  # noqa: B023
 
     def test_nothing_runs_on_after_it_was_killed(self):
         """By what no program hears of, while a worker is at work."""
         with self.at_work() as (server, children):
             server.process.kill()
             server.wait()
-        self.assertEqual(left_of(children), set())
+        wait_until(lambda: not any(map(is_running, children)), "some go on")
 
     def test_an_interrupt_is_kept_as_the_fork_server_begins(self):
         from crystal_nets.desk.worker import Workers
@@ -162,42 +160,27 @@ class End(FolderTest):
         with mock.patch("multiprocessing.forkserver.ensure_running", interrupt), self.assertRaises(KeyboardInterrupt):
             Workers().start()
 
+    def test_an_interrupt_between_the_address_and_the_first_request(self):
+        code = (f"import os, signal, sys; sys.path.insert(0, {str(TOP / 'python')!r}); sys.argv = ['net_tool', 'desk']\n"
+                "from crystal_nets import commands\nfrom crystal_nets.desk import command\n"
+                "command.write_leading_file = lambda *_: os.kill(os.getpid(), signal.SIGINT)\ncommands.main()\n")
+        done = run(sys.executable, "-c", code)
+        self.assertEqual((done.stdout.count(b"\n"), done.stderr), (2, b""))
+
     def test_ended_at_once(self):
         for wait in (0, 0.05, 0.2, 0.5):
             process = subprocess.Popen([DESK, "--no-browser"], stdout=subprocess.PIPE, stderr=subprocess.PIPE, text=True)
             time.sleep(wait)
             process.send_signal(signal.SIGINT)
-            _, told = process.communicate(timeout=100)
+            _, told = process.communicate(timeout=PATIENCE)
             if process.returncode == 0:
                 self.assertEqual(told, "")
             self.assertNotIn("net_desk", told)  # nor is it in a traceback of python3 itself, which begins yet
 
 
-def wait_for(look: Callable[[], set[int]], is_enough: Callable[[set[int]], bool]) -> set[int]:
-    """What is seen once it is enough, or after PATIENCE seconds."""
-    end = time.monotonic() + PATIENCE
-    found = look()
-    while not is_enough(found) and time.monotonic() < end:
-        time.sleep(0.1)
-        found = look()
-    return found
-
-
-def left_of(pids: set[int]) -> set[int]:
-    """Those that run yet after PATIENCE seconds."""
-    return wait_for(lambda: set(filter(is_running, pids)), lambda left: not left)
-
-
 def is_endless(pid: int) -> bool:
     try:
         return Path(f"/proc/{pid}/cmdline").read_bytes() == b"sleep\0%d\0" % ENDLESS
-    except OSError:
-        return False
-
-
-def is_running(pid: int) -> bool:
-    try:
-        return Path(f"/proc/{pid}/stat").read_text().rsplit(")", 1)[1].split()[0] != "Z"
     except OSError:
         return False
 

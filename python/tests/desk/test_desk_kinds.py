@@ -69,7 +69,7 @@ class Zips(unittest.TestCase):
             self.assertEqual(b64decode(unzip(zip_of({"a.cgd": SQL}, method))["files"][0]["content"]), SQL)
 
     def test_bombs(self):
-        begun = time.monotonic()
+        begun = time.process_time()
         for files in ({"a": bytes(MOST_BYTES + 1)}, {str(k): bytes(1 << 20) for k in range((MOST_BYTES >> 20) + 1)}):
             with self.assertRaisesRegex(NotANet, "more than 64 MB, unpacked"):
                 unzip(zip_of(files))
@@ -80,7 +80,7 @@ class Zips(unittest.TestCase):
         lie[at + 24:at + 28] = (100).to_bytes(4, "little")  # a size that is not true
         with self.assertRaisesRegex(NotANet, "damaged"):
             unzip(bytes(lie))
-        self.assertLess(time.monotonic() - begun, 60)
+        self.assertLess(time.process_time() - begun, 60)
 
     def test_what_is_no_archive_of_files(self):
         for content, word in ((b"PK\x03\x04x", "damaged"), (zip_of({}), "no file"), (zip_of({"x/": b""}), "no file"),

@@ -14,12 +14,13 @@ import time
 import unittest
 import zipfile
 from concurrent.futures import ThreadPoolExecutor
-from contextlib import ExitStack
+from contextlib import ExitStack, suppress
+from pathlib import Path
 from unittest import mock
 
 from desk import Server, form_of, memory_for_program, need_desk
 from mutants import mutant
-from testing import IS_LONG, TOP
+from testing import IS_LONG, PATIENCE, TOP, wait_until
 
 need_desk()
 from crystal_nets.desk.application import FILES, MOST_FIELDS, application  # noqa: E402
@@ -149,7 +150,7 @@ class WhoMayAsk(WithServer):
         for line in (b"\r\n\r\n", b"GET\r\n\r\n", b"\x16\x03\x01\x02\x00\x01\x00", b"GET / HTTP/9.9\r\n\r\n",
                      b"A" * 70_000 + b"\r\n\r\n", b"GET / HTTP/1.1\r\n" + b"a: b\r\n" * 200 + b"\r\n"):
             with socket.create_connection(self.server.host.split(":")) as client:
-                client.settimeout(30)
+                client.settimeout(PATIENCE)
                 client.sendall(line)
                 client.shutdown(socket.SHUT_WR)
                 try:
@@ -167,24 +168,22 @@ class ManyConnections(WithServer):
         strangers = []
         with ExitStack() as stack:
             for _ in range(1100):
-                strangers.append(stack.enter_context(socket.create_connection(self.server.host.split(":"), 60)))
-            self.assertEqual(self.server.request("GET", "")[0], 200)
-            time.sleep(1)
+                strangers.append(stack.enter_context(socket.create_connection(self.server.host.split(":"), PATIENCE)))
+            self.assertEqual(self.server.request("GET", "")[0], 200)  # then all before it are taken or ended
             strangers[-1].setblocking(False)
             with self.assertRaises(BlockingIOError):  # it waits yet, as the newest ones do
                 strangers[-1].recv(1)
             self.assertEqual(strangers[0].recv(1), b"")
-            files = len(os.listdir(f"/proc/{self.server.process.pid}/fd"))
-        self.assertLess(files, MOST_STRANGERS + 40)
+            files = Path(f"/proc/{self.server.process.pid}/fd")
+            wait_until(lambda: len(os.listdir(files)) < MOST_STRANGERS + 40, "connections stay open")
 
     def test_a_request_that_never_ends_is_ended(self):
         """A byte at a time, so that the connection is never silent for long."""
-        begun = time.monotonic()
-        with socket.create_connection(self.server.host.split(":"), 60) as client, self.assertRaises(OSError):
-            while time.monotonic() < begun + 6 * SECONDS_TO_ASK:
+        last = time.monotonic() + PATIENCE
+        with socket.create_connection(self.server.host.split(":"), PATIENCE) as client, self.assertRaises(OSError):
+            while time.monotonic() < last:
                 client.sendall(b"G")
-                time.sleep(0.5)
-        self.assertLess(time.monotonic(), begun + 5 * SECONDS_TO_ASK)
+                time.sleep(SECONDS_TO_ASK / 20)
 
     def test_a_file_number_past_what_select_knows(self):
         """A client is there whatever number its connection has."""
@@ -358,12 +357,10 @@ class Bombs(WithServer):
                               ("deep.cif", b"data_x\nloop_\n_a\n" + b"[" * 3_000_000), ("zeros.arc", bytes(30_000_000)),
                               ("long.cif", b"data_" + b"x" * 20_000_000), ("quotes.cgd", b'"' * 20_000_000),
                               ("blocks.cif", b"data_x\n_a 1\n" * 300_000)):
-            begun = time.monotonic()
             answer = self.server.nets(name, content)
             told = answer.get("reason") or answer["rows"][0]["refusal"]
             self.assertTrue(told, name)
             self.assertNotIn("Traceback", told)
-            self.assertLess(time.monotonic() - begun, 100, name)
         self.assertEqual(self.server.nets("a.cgd", SQL)["total"], 1)
 
     def test_a_huge_number_of_nets(self):
@@ -377,27 +374,17 @@ class Bombs(WithServer):
         before = self.server.children()
         with ThreadPoolExecutor(1) as pool:
             waiting = pool.submit(self.server.nets, "huge.cgd", SQL * 800_000)
-            for _ in range(6000):
-                time.sleep(0.02)
-                new = self.server.children() - before
-                if new or waiting.done():
-                    break
-            for pid in new:
-                try:
+            wait_until(lambda: waiting.done() or self.server.children() - before)
+            for pid in self.server.children() - before:
+                with suppress(ProcessLookupError):
                     os.kill(pid, signal.SIGTERM)
-                except ProcessLookupError:
-                    pass
             self.assertRegex(waiting.result()["reason"], "ended from outside|stopped")
 
     def test_work_ends_where_nobody_waits(self):
         before = self.server.children()
         body, kind = form_of({"file": ("huge.cgd", SQL * 800_000), "convention": "auto", "choices": "[]"})
         self.server.begun("nets", body, kind).close()
-        for _ in range(1200):
-            time.sleep(0.1)
-            if self.server.children() <= before:
-                return
-        self.fail(f"these go on: {self.server.children() - before}")
+        wait_until(lambda: self.server.children() <= before, "some go on")
 
 
 def many_atoms() -> bytes:

@@ -16,10 +16,13 @@ need_commands("node")
 
 PAGE = TOP / "python/crystal_nets/desk/page"
 VIEWER = TOP / "python/crystal_nets/pictures/viewer.js"
-# What the modules ask of the browser; `asked` has the questions to the server, each with what answers it.
+# What the modules ask of the browser; `asked` has the questions to the server, each with what answers it. Proofs are tested
+# at once, and not by another thread as in a browser: so whatever follows an answer is done when a turn is over.
 STAGE = """
-import { createHmac, webcrypto } from 'node:crypto';
-globalThis.crypto ??= webcrypto;
+import { createHmac, timingSafeEqual } from 'node:crypto';
+const digest = (secret, ...parts) => parts.reduce((hash, part) => hash.update(part), createHmac('sha256', secret)).digest();
+const subtle = { importKey: async (_, secret) => secret, verify: async (_, secret, proof, told) => timingSafeEqual(digest(secret, told), proof) };
+Object.defineProperty(globalThis, 'crypto', { value: { subtle, getRandomValues: bytes => bytes.fill(7) } });
 const control = () => ({ value: 'fitting', removeAttribute() {}, setAttribute() {}, append() {}, remove() {}, cloneNode: control });
 const label = { parentElement: { textContent: ' hydrogen bonds are edges' } };
 const choices = { ticked: [], querySelectorAll() { return this.ticked; }, querySelector: () => label };
@@ -37,8 +40,7 @@ Object.assign(globalThis, {
   fetch: (path, { body, method = 'GET', headers, signal }) => new Promise((done, fail) => {
     if (signal?.aborted) return fail(new Error('stopped'));
     const content = value => new TextEncoder().encode(JSON.stringify(value));
-    const proof = value => createHmac('sha256', Buffer.from(SECRET, 'hex')).update(`${headers.Nonce} ${method} ${path} 200\\n`)
-      .update(content(value)).digest('hex');
+    const proof = value => digest(Buffer.from(SECRET, 'hex'), `${headers.Nonce} ${method} ${path} 200\\n`, content(value)).toString('hex');
     const answer = value => done({ ok: true, status: 200, arrayBuffer: async () => content(value),
       headers: { get: () => isTrue ? proof(value) : '00'.repeat(32) } });
     if (path === 'proof') return answer({});
@@ -46,7 +48,7 @@ Object.assign(globalThis, {
   }) });
 const [{ Source }, { tableText, toldText, unreadText }, { structureOf }] =
   await Promise.all(['sources', 'columns', 'structure'].map(name => import(`${process.argv[1]}/${name}.js`)));
-const pause = () => new Promise(done => setTimeout(done, 20));
+const pause = () => new Promise(done => setTimeout(done));
 const questionAt = async place => {  // which is asked after a proof
   while (!asked[place]) await pause();
   return asked[place];
@@ -130,8 +132,9 @@ class ReadAgain(unittest.TestCase):
     def test_what_a_file_holds_decides_and_not_its_name(self):
         """A structure whose name ends as that of nets has a convention, and nets have none."""
         seen = self.played("""
-            const structure = new Source({ name: 'a.cgd', size: 9 }, false), nets = new Source({ name: 'b.cif', size: 9 }, false);
+            const structure = new Source({ name: 'a.cgd', size: 9 }, false);
             await answered(0, 'one');
+            const nets = new Source({ name: 'b.cif', size: 9 }, false);
             (await questionAt(1)).fields.convention = 'blocks';
             await answered(1, 'two');
             give([structure.isBlocks, nets.isBlocks]);""")

@@ -21,13 +21,28 @@ from crystal_nets.embedding.embedding import embedding_of_key  # noqa: E402
 from crystal_nets.embedding.relaxing import Certainty  # noqa: E402
 from crystal_nets.side_by_side import processors  # noqa: E402
 
-# lengths of the axes of nets whose edges have the length 1, from the geometry of tilings and honeycombs
-BY_HAND = {
-    "pcu": [1] * 3, "dia": [4 / sqrt(3)] * 3, "sod": [2 * sqrt(2)] * 3, "srs": [2 * sqrt(2)] * 3, "nbo": [2] * 3,
-    "fcu": [sqrt(2)] * 3, "bcu": [2 / sqrt(3)] * 3, "LTA": [1 + 2 * sqrt(2)] * 3, "RHO": [2 + 2 * sqrt(2)] * 3,
-    "FAU": [4 * (1 + sqrt(6)) / sqrt(3)] * 3, "sql": [1] * 2, "hcb": [sqrt(3)] * 2, "kgm": [2] * 2, "hxl": [1] * 2,
-    "fes": [1 + sqrt(2)] * 2, "hca": [2 + sqrt(3)] * 2, "fxt": [3 + sqrt(3)] * 2, "htb": [1 + sqrt(3)] * 2,
-    "fsz": [sqrt(7)] * 2, "tts": [sqrt(2 + sqrt(3))] * 2, "cem": [1, 2 + sqrt(3)]}
+# lengths of the axes of nets whose edges have the length 1: from the geometry of tilings and honeycombs, of sites that a cubic
+# group fixes, of tetrahedra, squares, octahedra and cubes in the place of vertices; and of prisms and nets with two axes
+# from the greatest volume by one parameter, as a^2/3 + c^2/4 = 1 for acs
+R, S = sqrt(2), sqrt(3)
+CUBIC = {
+    "pcu": 1, "dia": 4 / S, "sod": 2 * R, "srs": 2 * R, "nbo": 2, "fcu": R, "bcu": 2 / S, "LTA": 1 + 2 * R, "RHO": 2 + 2 * R,
+    "FAU": 4 * (1 + sqrt(6)) / S, "flu": 4 / S, "pto": 2 * R, "she": 2 * R, "ocu": 4 / S, "soc": 2 * R, "spn": 12 / sqrt(6),
+    "mgc": 8 / sqrt(11), "toc": 4 / S, "gar": 8 / sqrt(5), "lcs": 8 / sqrt(6), "lcy": 4 / sqrt(6), "thp": 8 / sqrt(14),
+    "crs": 2 * R, "reo": R, "ftw": R, "ith": 4 / sqrt(5), "lcv": 8 / sqrt(6), "hxg": R, "cab": 1 + R, "pcb": 2 + 2 / S,
+    "dia-a": 4 / S * (1 + sqrt(6) / 2), "nbo-a": 2 + 2 * R, "srs-a": 2 * R * (1 + 2 / S), "ubt": 3 * R,
+    "cantellated cubic honeycomb": 1 + R, "runcitruncated cubic honeycomb": 2 + R, "runcic cubic honeycomb": 2 + R}
+TILINGS = {
+    "sql": [1, 1], "hcb": [S, S], "kgm": [2, 2], "hxl": [1, 1], "fes": [1 + R] * 2, "hca": [2 + S] * 2, "fxt": [3 + S] * 2,
+    "htb": [1 + S] * 2, "fsz": [sqrt(7)] * 2, "tts": [sqrt(2 + S)] * 2, "cem": [1, 2 + S]}
+PRISMS = {"bnn": "hcb", "kag": "kgm", "hex": "hxl",
+          **{f"prisms of {name}": name for name in ("fes", "hca", "fxt", "htb", "fsz", "tts", "cem")}}
+WITH_AN_AXIS = {
+    "nia": (R, 4 / S), "alb": (R, 2 / S), "acs": (R, 2 / S), "shp": (sqrt(8 / 3), 2 / S), "scu": (sqrt(8 / 3), 2 / S),
+    "csq": (sqrt(32 / 3), 2 / S), "stp": (2 * R, 2 / S), "lon": (sqrt(8 / 3), 8 / 3), "hcp": (1, sqrt(8 / 3))}
+BY_HAND = {**{name: [a] * 3 for name, a in CUBIC.items()}, **TILINGS,
+           **{name: [*TILINGS[layer], 1] for name, layer in PRISMS.items()},
+           **{name: [a, a, c] for name, (a, c) in WITH_AN_AXIS.items()}}
 LAYERS = 2_000 if IS_LONG else 68
 CELLS = 3
 

@@ -13,7 +13,7 @@ from shutil import which
 
 from mutants import Script, mutant
 from odd_cells import block, edges_of_archive, in_odd_cell
-from testing import (IS_LONG, PROGRAM, TOP, FolderTest, command, long_test, need_commands, need_modules,
+from testing import (IS_LONG, PATIENCE, PROGRAM, TOP, FolderTest, command, long_test, need_commands, need_modules,
                      need_program, run, run_on_terminal)
 
 need_modules("numpy")
@@ -330,7 +330,7 @@ class Files(FolderTest):
         browser = subprocess.Popen(words, stdout=subprocess.PIPE, stderr=subprocess.DEVNULL, start_new_session=True,
                                    env={**os.environ, "HOME": str(self.folder)})
         try:
-            told = browser.communicate(timeout=60)[0].decode(errors="replace")
+            told = browser.communicate(timeout=PATIENCE)[0].decode(errors="replace")
         except subprocess.TimeoutExpired:
             told = ""
         finally:

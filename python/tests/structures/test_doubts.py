@@ -9,7 +9,7 @@ need_modules("gemmi", "numpy", "scipy")
 from kinds import Kinds, cif_text, cubic  # noqa: E402
 
 from crystal_nets.refusal import Refused  # noqa: E402
-from crystal_nets.structures.atoms.elements import element_of  # noqa: E402
+from crystal_nets.structures.atoms.elements import element_of, is_ambiguous  # noqa: E402
 from crystal_nets.structures.bonds.lengths import shortest_of_nonmetals  # noqa: E402
 from crystal_nets.structures.bonds.rules import INTERMETALLIC, find_bonds  # noqa: E402
 from crystal_nets.structures.reading.document import blocks_of  # noqa: E402
@@ -62,12 +62,21 @@ class Doubts(Kinds):
         self.assertLess(shortest_of_nonmetals("C", "S"), 1.535)  # of the molecule CS
 
 
-class Labels(unittest.TestCase):
+class Labels(Kinds):
     def test_elements_without_crystals_are_none(self):
         for label, element in (("OG1", "O"), ("CN1", "C"), ("NO1", "N"), ("Nh4", "N"), ("FM2", "F"), ("Es1", "Es")):
             self.assertEqual(element_of("", label, {}), element, label)
         self.assertEqual(element_of("No", "No1", {}), "No")  # of a program that has it so
         self.assertEqual(element_of("CN", "CN1", {}), "C")
+
+    def test_capitals_that_spell_two_elements_are_a_doubt(self):
+        """CD1 is cadmium, or a carbon of a program that names it by its place; a symbol or a formula tells which."""
+        for symbol, label, formula, told in (("", "CD1", {}, True), ("", "Cd1", {}, False), ("C", "CD1", {}, False),
+                                             ("", "CD1", {"C": 2.0}, False), ("", "SI1", {}, True), ("", "OW1", {}, False),
+                                             ("", "HO1", {}, False), ("", "C1", {}, False), ("", "", {}, False)):
+            self.assertEqual(is_ambiguous(symbol, label, formula), told, (symbol, label, formula))
+        sites = [("CD1", "?", 0, 0, 0), ("S1", "S", 0.25, 0.25, 0.25)]
+        self.assertIn("CD1 as Cd", self.doubts(cif_text(cubic(5.83), sites, name="F -4 3 m")))
 
     def test_an_atom_without_any_is_told(self):
         with self.assertRaisesRegex(Refused, "an atom has neither a label nor a type symbol"):

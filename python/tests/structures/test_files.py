@@ -8,7 +8,7 @@ import random
 import re
 from pathlib import Path
 
-from testing import IS_LONG, PROGRAM, TOP, FolderTest, command, need_modules, need_program, run, run_on_terminal
+from testing import IS_LONG, PATIENCE, PROGRAM, TOP, FolderTest, command, need_modules, need_program, run, run_on_terminal
 
 need_modules("gemmi", "numpy", "scipy")
 from structures import STRUCTURES, cif_text, presentations  # noqa: E402
@@ -257,7 +257,7 @@ class ManyFiles(FolderTest):
 
     def test_a_pipe_in_a_folder_is_told_and_not_waited_for(self):
         os.mkfifo(self.folder / "a/pipe.cif")
-        done = run(COMMAND, self.folder, status=1, seconds=60)
+        done = run(COMMAND, self.folder, status=1, seconds=PATIENCE)
         self.assertEqual(done.stdout.count(b"PERIODIC_GRAPH"), 4)
         self.assertIn(b"pipe.cif: refused: not readable: it is no file, but a pipe", done.stderr)
 

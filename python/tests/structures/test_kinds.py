@@ -228,6 +228,11 @@ class Guests(Kinds):
         self.assertEqual(self.net(text).graph.dimension, 2)
         self.assertIn("with K the net is a net in space", self.doubts(text))
 
+    def test_atoms_too_near_are_of_another_origin(self):
+        """Lithium cobaltate with its oxygen read from the other origin of its group."""
+        text = cif_text((2.816, 2.816, 14.054, 90, 90, 120), [("Co1", "Co", 0, 0, 0), ("O1", "O", 0, 0, 0.0605)], name="R -3 m:H")
+        self.assertRegex(self.refusal(text), "angstrom apart .*another origin or setting")
+
     def test_rock_salt_superstructures_keep_their_cations(self):
         text = cif_text((2.816, 2.816, 14.054, 90, 90, 120), [("Li1", "Li", 0, 0, 0.5), ("Co1", "Co", 0, 0, 0), ("O1", "O", 0, 0, 0.2605)],
                         name="R -3 m:H")

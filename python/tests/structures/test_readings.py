@@ -194,6 +194,12 @@ class Cations(Kinds):
         sites = [("Ca1", "Ca", 0, 0, 0), ("Cs1", "Cs", 0.5, 0.5, 0.5), ("B1", "B", 0.5, 0, 0), ("H1", "H", 0.6174, 0.1174, 0.1174)]
         self.assert_net("pcu", cif_text(cubic(5.9), sites, name="P -4 3 m"))
 
+    def test_borane_clusters_are_molecules(self):
+        """K and Rb in B12H12: the metals hold what are molecules by themselves."""
+        for metal, a in (("K", 10.629), ("Rb", 10.869)):
+            sites = [("M1", metal, 0.25, 0.25, 0.25), ("B1", "B", 0, 0.083, 0.135), ("H1", "H", 0, 0.138, 0.223)]
+            self.assertIn(f"--leave-out {metal}", self.doubts(cif_text(cubic(a), sites, name="F m -3")))
+
 
 class Zintl(Kinds):
     """Cations beside atoms that have their valences among themselves."""

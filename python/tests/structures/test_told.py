@@ -6,7 +6,7 @@ import json
 import time
 import unittest
 
-from testing import FolderTest, command, need_modules, run
+from testing import PATIENCE, FolderTest, command, need_modules, run
 
 need_modules("gemmi", "numpy", "scipy")
 from kinds import SEQUENCES, Kinds, cif_text, converted, cubic  # noqa: E402
@@ -186,7 +186,7 @@ class Formats(FolderTest):
         for text, told in (("9" * 11 + self.EXTXYZ[1:], b"99999999999 atoms are counted in line 1, and 1 rows are there"),
                            (self.EXTXYZ + "3\n" + self.EXTXYZ[2:], b"3 atoms are counted in line 4, and 1 rows are there")):
             file.write_text(text)
-            self.assertIn(told, run(COMMAND, file, status=1, seconds=20).stderr)
+            self.assertIn(told, run(COMMAND, file, status=1, seconds=PATIENCE).stderr)
         file.write_text("1\nLattice=\"3 0 0 0 3 0 0 0 3\"\nC7x 0 0 0\n")
         self.assertIn(b"'C7x' is no element and no column of it", run(COMMAND, file, status=1).stderr)
 

@@ -7,12 +7,11 @@ import shutil
 import signal
 import subprocess
 import sys
-import time
 from pathlib import Path
 from unittest import mock
 
-from testing import (PROGRAM, TOP, FolderTest, command, ends_soon, need_commands, need_modules,
-                     need_program, run)
+from testing import (PATIENCE, PROGRAM, TOP, FolderTest, command, ends_soon, need_commands, need_modules,
+                     need_program, run, wait_until)
 
 from crystal_nets import identify_each, read  # noqa: E402
 
@@ -20,7 +19,7 @@ SQUARE = b"PERIODIC_GRAPH\nNAME square\nEDGES\n1 1 1 0\n1 1 0 1\nEND\n"
 WAITING = f"""#!/bin/sh
 [ "$1" != duplicates ] || exec {PROGRAM} "$@"
 echo $$ >>"$PIDS"
-exec sleep 600
+exec sleep {2 * PATIENCE}
 """
 WAIT_FOR_INPUT = {"topology": ("/dev/stdin",), "names": ("-",), "convert --as nets": (), "draw": ("--page", "x")}
 SIGNALS = (signal.SIGINT, signal.SIGTERM, signal.SIGHUP, signal.SIGKILL)
@@ -46,7 +45,7 @@ class Signals(FolderTest):
     def ended(self, process: subprocess.Popen, number: int) -> bytes:
         """What a command tells that gets a signal."""
         process.send_signal(number)
-        told = process.communicate(timeout=20)[1]
+        told = process.communicate(timeout=PATIENCE)[1]
         self.assertIn(process.returncode, (-number, 128 + number), process.args)
         return told
 
@@ -61,10 +60,7 @@ class Signals(FolderTest):
                 for old in self.temporary.iterdir():  # of name_nets that was killed
                     shutil.rmtree(old)
                 process = self.begun(*words)
-                until = time.monotonic() + 60
-                while not self.pids.read_text().endswith("\n") and time.monotonic() < until:
-                    time.sleep(0.02)
-                self.assertTrue(self.pids.read_text(), f"{words[0]} began no program")
+                wait_until(lambda: self.pids.read_text().endswith("\n"), f"{words[0]} begins no program")
                 self.assertNotIn(b"Traceback", self.ended(process, number))
                 for line in self.pids.read_text().splitlines():
                     self.assertTrue(ends_soon(int(line)), f"{words[0]} left its program running after {number!r}")
@@ -74,9 +70,7 @@ class Signals(FolderTest):
     def test_an_interrupt_has_no_trace(self):
         for name, words in WAIT_FOR_INPUT.items():
             process = self.begun(command(name), *words)
-            until = time.monotonic() + 60
-            while not self.waits(process.pid) and time.monotonic() < until:
-                time.sleep(0.02)
+            wait_until(lambda: self.waits(process.pid), f"{name} does not read standard input")  # noqa: B023
             self.assertEqual(self.ended(process, signal.SIGINT), b"", name)
 
     def waits(self, number: int) -> bool:

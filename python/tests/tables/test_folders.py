@@ -6,9 +6,8 @@ import shutil
 import subprocess
 import sys
 import threading
-from pathlib import Path
 
-from testing import PROGRAM, TOP, FolderTest, command, need_commands, need_modules, need_program, run
+from testing import PATIENCE, PROGRAM, TOP, FolderTest, command, need_commands, need_modules, need_program, run
 
 from crystal_nets.files import walked, write_whole  # noqa: E402
 from crystal_nets.tables.source import Failed, files_of, state_of  # noqa: E402
@@ -43,7 +42,7 @@ class Walks(FolderTest):
         for source in (self.folder, self.folder / "pipe.cif"):
             with self.assertRaisesRegex(Failed, r"pipe\.cif is no file, but a pipe"):
                 state_of(files_of(source))
-        done = run(command("table"), self.folder, self.folder / "table", "--no-names", status=FAILED, seconds=60)
+        done = run(command("table"), self.folder, self.folder / "table", "--no-names", status=FAILED, seconds=PATIENCE)
         self.assertIn(b"is no file, but a pipe", done.stderr)
 
     def test_what_is_passed_over_is_told(self):

@@ -4,10 +4,9 @@ import os
 import random
 import subprocess
 import sys
-import time
 from pathlib import Path
 
-from testing import IS_LONG, TESTS, TOP, FolderTest, need_commands
+from testing import IS_LONG, PATIENCE, TESTS, TOP, FolderTest, need_commands, wait_until
 
 from crystal_nets.archive import Archive
 from crystal_nets.net import Net
@@ -90,13 +89,11 @@ class Joined(FolderTest):
         code = (f"import sys; sys.path[:0] = [{str(TOP / 'python')!r}, {str(TESTS)!r}, {str(TESTS / 'tables')!r}]\n"
                 "from pathlib import Path; from crystal_nets.tables import join; from crystal_nets.tables.plan import Plan\n"
                 f"folder = Path({str(self.folder)!r}); plan = Plan({{'source': 'x'}}, [[] for _ in range({PIECES})])\n"
-                "join._put_together = lambda *_: __import__('time').sleep(60)\n"
+                f"join._put_together = lambda *_: __import__('time').sleep({2 * PATIENCE})\n"
                 "print('begun', flush=True); join.join(folder, folder / 'work', plan, None, 2)")
         with subprocess.Popen([sys.executable, "-B", "-c", code], stdout=subprocess.PIPE) as child:
             self.assertEqual(child.stdout.readline(), b"begun\n")
-            until = time.monotonic() + 30
-            while time.monotonic() < until and not list(self.work.glob("table.tsv.*.part")):
-                time.sleep(0.01)
+            wait_until(lambda: list(self.work.glob("table.tsv.*.part")))
             child.kill()
         self.assertEqual(contents(self.folder), whole)
         join(self.folder, self.work, self.plan, None, 2)

@@ -4,10 +4,9 @@ import os
 import signal
 import subprocess
 import sys
-import time
 from pathlib import Path
 
-from testing import PROGRAM, TOP, FolderTest, command, need_commands, need_modules, need_program, run
+from testing import PROGRAM, TOP, FolderTest, command, need_commands, need_modules, need_program, run, wait_until
 
 from crystal_nets.tables.plan import Plan, Portion, read_plan, write_plan  # noqa: E402
 from crystal_nets.tables.source import Failed  # noqa: E402
@@ -149,9 +148,7 @@ class Sources(FolderTest):
         process = subprocess.Popen([*map(str, COMMAND), str(self.source), str(self.result), "--no-names", "--keys-alone"],
                                    stdout=subprocess.DEVNULL, stderr=subprocess.DEVNULL,
                                    env={**os.environ, "NET_TOOL": PROGRAM})
-        until = time.monotonic() + 60
-        while process.poll() is None and not list(self.result.glob("work/*.rows")) and time.monotonic() < until:
-            time.sleep(0.005)
+        wait_until(lambda: process.poll() is not None or list(self.result.glob("work/*.rows")))
         process.send_signal(signal.SIGKILL)
         process.wait()
         self.swap(keeps_time=True)

@@ -20,9 +20,10 @@ export function listedOf(entry) {
   return box;
 }
 
-function symbolsOf({ symmetry, point_symbol: points, vertex_symbols: kinds, td10, transitivity }) {
+function symbolsOf({ symmetry, group, point_symbol: points, vertex_symbols: kinds, td10, transitivity }) {
   const symbols = kinds.map(({ symbol, vertices, connectivity }) => make('code', {}, (symbol || `none, ${connectivity}-connected`) +
     `${kinds.length > 1 ? ` (${count(vertices, 'vertex', 'vertices')})` : ''}\n`));
-  return listOf([...(symmetry ? [['symmetry', symmetry]] : []), ['point symbol', make('code', {}, points)], ['vertex symbols', make('span', {}, ...symbols)], ['TD10', td10],
+  return listOf([...(symmetry ? [['symmetry', symmetry]] : []), ...(group ? [['group of the block', group]] : []),
+    ['point symbol', make('code', {}, points)], ['vertex symbols', make('span', {}, ...symbols)], ['TD10', td10],
     ['transitivity', transitivity || 'not found, since two vertices have one position']]);
 }

@@ -73,6 +73,16 @@ def element_of(symbol: str, label: str, formula: dict[str, float]) -> str:
     return "H" if found == "D" else found
 
 
+def is_ambiguous(symbol: str, label: str, formula: dict[str, float]) -> bool:
+    """Whether a label in capitals spells two elements, as CD1 cadmium or a carbon, and neither a symbol nor a formula
+    tells which."""
+    if symbol or formula or is_water(label) or HYDROGEN.match(label):
+        return False
+    letters = label[:2]
+    readings = (letters.capitalize(), letters[:1])
+    return letters.isalpha() and letters.isupper() and all(0 < gemmi.Element(e).atomic_number <= LAST for e in readings)
+
+
 def _is_w_of_water(label: str, formula: dict[str, float]) -> bool:
     """Whether W1 is water, and not tungsten: by the formula, where there is one."""
     return re.fullmatch(r"W\d+", label) is not None and bool(formula) and "W" not in formula

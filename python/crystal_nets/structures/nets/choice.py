@@ -61,7 +61,8 @@ def nets_of(crystal: Crystal, options: Options, notes: list[Note]) -> list[Net]:
         notes.append(Note(DOUBT, told))
         crystal = crystal.without(too_near)
     elif crystal.misfit and not options.accept_misfit:
-        raise Refused(f"{crystal.misfit} (--accept-misfit takes it all the same)")
+        origin = "; another origin or setting of the group puts atoms too near each other" if crystal.near else ""
+        raise Refused(f"{crystal.misfit} (--accept-misfit takes it all the same{origin})")
     elif crystal.misfit:
         notes.append(Note(DOUBT, crystal.misfit))
     doubts: list[str] = []

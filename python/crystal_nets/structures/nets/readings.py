@@ -96,6 +96,7 @@ def _readings(crystal: Crystal, bonds: set[Edge]) -> Iterator[Reading]:
     if secondary:
         yield Reading(f"with {told_contacts(crystal, secondary)}", _option(crystal, secondary, 0.01),
                       bonds | {c.edge() for c in secondary})
+    yield from _readings_of_boranes(crystal, bonds)
 
 
 def _longest(crystal: Crystal, c: Contact) -> float:
@@ -144,6 +145,20 @@ def _readings_of_metalloids(crystal: Crystal, bonds: set[Edge]) -> Iterator[Read
     metals = sorted({atom.site.element for atom in crystal.atoms} - METALLOIDS)
     if rest and metals and dimension_of(QuotientGraph.of((atom.name for atom in crystal.atoms), rest)) >= 2:
         yield _without(metals, rest)
+
+
+def _readings_of_boranes(crystal: Crystal, bonds: set[Edge]) -> Iterator[Reading]:
+    """Without the bonds of metals to clusters whose atoms have hydrogens of their own: these are molecules, as in K2B12H12
+    (J. A. Wunderlich and W. N. Lipscomb, J. Am. Chem. Soc. 82 (1960) 4427)."""
+    elements = [atom.site.element for atom in crystal.atoms]
+    judged = judged_contacts(crystal)
+    hydrides = {c.first for c in judged.covalent if elements[c.first] in METALLOIDS and elements[c.second] == "H"}
+    clusters = {c.first for c in judged.covalent if {c.first, c.second} <= hydrides}
+    held = [c for c in judged.taken if c.second in clusters and c.edge() in bonds]
+    if held:
+        metals = sorted({elements[c.first] for c in held})
+        yield Reading(f"without {told_contacts(crystal, held)}", f"--leave-out {','.join(metals)}",
+                      bonds - {c.edge() for c in held})
 
 
 def _readings_of_shells(crystal: Crystal, bonds: set[Edge]) -> Iterator[Reading]:

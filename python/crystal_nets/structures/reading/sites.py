@@ -14,7 +14,7 @@ import gemmi
 import numpy as np
 
 from ..atoms.crystal import Site
-from ..atoms.elements import element_of
+from ..atoms.elements import element_of, is_ambiguous
 from ...provenance import DOUBT, LEFT_OUT, Note, shorten
 from ...refusal import Refused
 
@@ -35,7 +35,7 @@ FRACTION = re.compile(r"([-+]?\d+)/(\d+)$")
 def read_sites(block: gemmi.cif.Block, cell: gemmi.UnitCell, formula: dict[str, float],
                notes: list[Note]) -> list[Site]:
     """The sites that have a place and are occupied; notes on the others."""
-    sites, dummies, absent, more = [], [], [], []
+    sites, dummies, absent, more, ambiguous = [], [], [], [], []
     is_cartesian = not block.find_values("_atom_site_fract_x")
     to_fractions = _to_fractions(block, cell) if is_cartesian else list
     for x, y, z, label, symbol, occupancy, flag, hydrogens, assembly, group in _rows(block):
@@ -52,6 +52,7 @@ def read_sites(block: gemmi.cif.Block, cell: gemmi.UnitCell, formula: dict[str, 
             absent.append(label)
             continue
         more += [f"{label} {occupancy}"] * (part > MOST_OCCUPIED)
+        ambiguous += [f"{label} as {element_of(symbol, label, formula)}"] * is_ambiguous(symbol, label, formula)
         sites.append(Site(label, element_of(symbol, label, formula), np.array(place), part,
                           number_of(hydrogens, label, absent=0.0), _group(assembly), _group(group)))
     if dummies:
@@ -60,6 +61,8 @@ def read_sites(block: gemmi.cif.Block, cell: gemmi.UnitCell, formula: dict[str, 
         notes.append(Note(LEFT_OUT, "left out, without a place or not occupied: " + shorten(" ".join(absent))))
     if more:
         notes.append(Note(DOUBT, "occupancies above 1, taken as full: " + shorten(" ".join(more))))
+    if ambiguous:
+        notes.append(Note(DOUBT, "labels read as elements without a symbol or a formula: " + shorten(", ".join(ambiguous))))
     if not sites:
         raise Refused("no atoms")
     return sites
