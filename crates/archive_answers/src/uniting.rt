@@ -13,7 +13,7 @@ use archive_union::{UniteFault, unite};
 use keyline_import::items;
 use least_key::Kinds;
 use net_archive::{Archive, Entry, entry_of};
-use net_report::{Answer, NoMemory, Outcome, OutcomeBody, Silence, Status, are_accepted, report};
+use net_report::{Answer, Outcome, OutcomeBody, Silence, Status, are_accepted, report};
 use std::alloc::Global;
 
 // The entry of an item, under its name.
