@@ -72,8 +72,16 @@ class Outcome:
 
     def fails(self, name: str) -> bool:
         """Whether it has a failure of a test, of the class or file that it is of, or of a test in what has this name."""
-        pairs = ((f"{failed}.", f"{name}.") for failed in self.failed)
-        return any(one.startswith(other) or other.startswith(one) for one, other in pairs)
+        return any(is_part(failed, name) or is_part(name, failed) for failed in self.failed)
+
+    def passes(self, name: str) -> bool:
+        """Whether a test passed, or tests of a class or file and all of them. What is skipped does not pass."""
+        return not self.fails(name) and any(is_part(passed, name) for passed in self.passed)
+
+
+def is_part(name: str, whole: str) -> bool:
+    """Whether a name is that of a test in a class or file, or the same one."""
+    return f"{name}.".startswith(f"{whole}.")
 
 
 class Noted(unittest.TestResult):
@@ -174,14 +182,16 @@ class Run:
 
     @property
     def failed(self) -> Iterator[tuple[Path, str, str]]:
-        """Each failure that is one alone too, with its text."""
-        return ((file, name, text) for file, outcome in self.alone.items() for name, text in outcome.failed.items())
+        """Each failure that is one alone too, with its text; and each one beside others that is skipped alone."""
+        for file, outcome in self.alone.items():
+            skipped = {name: text for name, text in self.beside[file].failed.items() if not outcome.fails(name) and not outcome.passes(name)}
+            yield from ((file, name, text) for name, text in {**outcome.failed, **skipped}.items())
 
     @property
     def only_alone(self) -> Iterator[tuple[Path, str, str]]:
-        """Each failure beside others that is none alone, with its text."""
+        """Each failure beside others of what passes alone, with its text."""
         return ((file, name, self.beside[file].failed[name]) for file, outcome in self.alone.items()
-                for name in self.beside[file].failed if not outcome.fails(name))
+                for name in self.beside[file].failed if outcome.passes(name))
 
     @property
     def passed(self) -> set[tuple[Path, str]]:
