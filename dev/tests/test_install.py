@@ -6,32 +6,15 @@ import random
 import re
 import shlex
 import shutil
-import signal
 import subprocess
 import tempfile
 from pathlib import Path
 
-from testing import (PATIENCE, PROGRAM, TOP, FolderTest, ends_soon, long_test, need_commands, need_modules,
-                     need_program, run, wait_until)
+from installing import EIGHT_NAMES, INSTALL, commands_taken, names_told
+from testing import PROGRAM, TOP, FolderTest, need_commands, need_modules, need_program, run
 
 import crystal_nets.commands
 from crystal_nets.commands import commands
-
-INSTALL = TOP / "dev/install"
-PAGE = TOP / "docs/man/net_tool.1"
-EIGHT_NAMES = [b"dia, diamond", b"hcb, graphite layer", b"pcu, alpha polonium", b"srs, strontium disilicide",
-               b"LTA, zeolite A", b"qtz, quartz", b"sra, aluminium in strontium dialuminide",
-               b"ABW, zeolite Li-A of Barrer and White", b"ths, silicon in thorium disilicide"]
-
-
-def names_told(report: bytes) -> list[bytes]:
-    return [line[6:-1] for line in report.splitlines() if line.startswith(b'name "')]
-
-
-def commands_taken() -> set[str]:
-    """The commands that ./net_tool takes: the table of words.sh."""
-    table = re.search(r"(?s)\ncommand_table='(.*?)'\n", (TOP / "front/words.sh").read_text())
-    return {row.split("|")[0] for row in table[1].split("\n")}
 
 
 class Installed(FolderTest):
@@ -289,16 +272,6 @@ class Installed(FolderTest):
         pages = {path.name.removesuffix(".1.gz") for path in (self.prefix / "share/man/man1").iterdir()}
         self.assertLessEqual({path.name for path in (self.prefix / "bin").iterdir()}, pages)
 
-    def test_numbers_that_are_none_are_told(self):
-        """By what they may be, and by no name of the code."""
-        need_modules("gemmi", "numpy", "scipy")
-        for words in ("net_tool convert --as structure --jobs {} x", "net_tool table --jobs {} x y", "net_tool table --seconds {} x y", "net_tool draw --page x --jobs {}",
-                      "net_tool draw --page x --only {}", "net_tool draw --png x --width {}", "net_tool gallery --jobs {} x", "net_tool desk --port {}", "net_tool desk --seconds {}",
-                      "net_tool desk --memory {}"):
-            for value in ("x", "-1", "1.5", "9" * 5000, "٣"):
-                said = self.told(words.replace("{}", f"'{value}'"), 2)[1]
-                self.assertRegex(said, r"error: argument --\w[\w-]*: ('.*' is not a whole number from \d+ to \d+|expected one argument)\n$", (words, value[:9]))
-
     def test_completion_of_subcommands(self):
         """Their words and their options, as the installed command lists them."""
         need_commands("bash")
@@ -354,106 +327,6 @@ class Installed(FolderTest):
                                  set(), page)
 
 
-class Scripts(FolderTest):
-    """All scripts of the repository, also those that are not installed."""
-
-    def test_each_has_help_that_does_nothing_else(self):
-        need_modules("gemmi", "numpy", "scipy", "flask")
-        files = [path for folder in ("dev/*", "dev/*/*") for path in TOP.glob(folder)]
-        scripts = [path for path in [*files, TOP / "net_tool", TOP / "preview"] if path.is_file() and os.access(path, os.X_OK)]
-        self.assertGreater(len(scripts), 12)
-        for script in scripts:
-            for word in ("--help", "-h"):
-                done = subprocess.run([script, word], cwd=self.folder, capture_output=True, stdin=subprocess.DEVNULL,
-                                      env={**os.environ, "PYTHONDONTWRITEBYTECODE": "1"})
-                self.assertEqual((done.returncode, done.stderr), (0, b""), script)
-                self.assertGreater(len(done.stdout), 80, script)
-        self.assertEqual(list(self.folder.iterdir()), [])
-
-
-class InFront(FolderTest):
-    """The command in front of a program that ends as the test wants it."""
-
-    def run_program(self, script: str, *words: object, status: int) -> str:
-        program = self.folder / "program"
-        program.write_text(f"#!/bin/sh\n{script}\n")
-        program.chmod(0o755)
-        run(INSTALL / "install.sh", self.folder / "prefix", program)
-        return run(self.folder / "prefix/bin/net_tool", *words, status=status).stderr.decode()
-
-    def test_a_union_that_took_no_item(self):
-        blocks = TOP / "examples/dia.cgd"
-        said = self.run_program("echo net_archive 2", "union", blocks, "--archive", "x", status=0)
-        self.assertIn("no key lines, but blocks PERIODIC_GRAPH", said)
-        self.assertEqual(run(self.folder / "prefix/bin/net_tool", "union", "--archive=x",
-                             TOP / "archives/common.archive").stderr, b"")
-
-    def test_a_union_of_a_pipe(self):
-        """What comes by a pipe is reported as a file is, and reaches the program whole."""
-        text = b"PERIODIC_GRAPH\nEND\n" * 900_000  # more than the program reads
-        self.run_program('cat >"$0.read"; exit 1', "union", "--archive", "x", status=1)
-        for words in (("union", "--archive", "x"), ("union", "-", "--archive=x")):
-            done = run(self.folder / "prefix/bin/net_tool", *words, stdin=text, status=1)
-            self.assertIn(b"no key lines, but blocks PERIODIC_GRAPH", done.stderr)
-            self.assertEqual((self.folder / "prefix/lib/net_tool/net_tool.read").read_bytes(), text[:16_777_217])
-        self.assertEqual(run(self.folder / "prefix/bin/net_tool", "union", "--archive=x", stdin=b"key 2 1 1 1 0 1 1 0 1\nid x\nend\n",
-                             status=1).stderr, b"")
-
-    def test_a_union_of_a_pipe_leaves_no_file(self):
-        temporary = self.folder / "temporary"
-        temporary.mkdir()
-        self.run_program("cat", "union", "--archive", "x", status=0)
-        run(self.folder / "prefix/bin/net_tool", "union", "--archive", "x", stdin=b"id x\nend\n", TMPDIR=str(temporary))
-        self.assertEqual(list(temporary.iterdir()), [])
-
-    def test_a_union_of_keys_in_several_lines(self):
-        items = self.folder / "x.arc"
-        for text, count in (("key 2 1 1 1 0 1 1 0 1\n id x\nend\n", 0), ("key 2 1 1 1 0\n 1 1 0 1\n id x\nend\n", 1)):
-            items.write_text(text)
-            said = self.run_program("echo net_archive 2", "union", items, "--archive", "x", status=0)
-            self.assertEqual((said.count("\n"), said.count("union reads no key further than its line")), (count, count))
-
-    def test_the_status_is_that_of_the_program(self):
-        for status, said in ((0, ""), (5, ""), (7, "memory was refused"), (9, ""), (11, "")):
-            self.assertIn(said, self.run_program(f"exit {status}", "workload", 3, status=status))
-        self.assertIn("not known", run(self.folder / "prefix/bin/net_tool", "--version").stdout.decode())
-
-
-class Ending(FolderTest):
-    """The command in front of the program and the program end together."""
-
-    def begun(self, *before: str) -> tuple[subprocess.Popen, int]:
-        """The installed command, while its program runs, and the number of the program's process."""
-        program, note = self.folder / "program", self.folder / "pid"
-        program.write_text(f"#!/bin/sh\necho $$ >{note}.new\nmv {note}.new {note}\nexec sleep {2 * PATIENCE}\n")
-        program.chmod(0o755)
-        note.unlink(missing_ok=True)
-        run(INSTALL / "install.sh", self.folder / "prefix", program)
-        process = subprocess.Popen([*before, self.folder / "prefix/bin/net_tool", "workload", "1"], stdin=subprocess.DEVNULL,
-                                   start_new_session=True)
-        self.addCleanup(process.kill)
-        wait_until(note.exists)
-        return process, int(note.read_text())
-
-    def test_by_each_signal(self):
-        for number, send in ((signal.SIGTERM, os.kill), (signal.SIGHUP, os.kill), (signal.SIGKILL, os.kill),
-                             (signal.SIGINT, os.killpg)):  # a terminal sends this one to all of the group
-            process, program = self.begun()
-            send(process.pid, number)
-            self.assertEqual(process.wait(PATIENCE), -number)
-            self.assertTrue(ends_soon(program), number)
-
-    def test_without_setpriv_the_program_is_the_command_itself(self):
-        tools = self.folder / "tools"
-        tools.mkdir()
-        for name in ("sh", "dirname", "readlink", "sleep", "mv"):
-            (tools / name).symlink_to(shutil.which(name))
-        process, program = self.begun("env", f"PATH={tools}")
-        self.assertEqual(process.pid, program)
-        process.kill()
-        process.wait(PATIENCE)
-
-
 class Words(FolderTest):
     def test_words_without_a_form(self):
         for words in ([], ["relative"], ["/a", "/b", "/c"]):
@@ -464,107 +337,3 @@ class Words(FolderTest):
         done = run(INSTALL / "install.sh", self.folder, self.folder / "absent", status=1)
         self.assertIn(b"is not there", done.stderr)
         self.assertEqual(list(self.folder.iterdir()), [])
-
-
-class Completion(FolderTest):
-    def complete(self, *words: str) -> set[str]:
-        """What bash offers for the last word."""
-        need_commands("bash")
-        script = (f"source {shlex.quote(str(TOP / 'front/net_tool.bash'))}; COMP_WORDS=({shlex.join(words)}); "
-                  f"COMP_CWORD={len(words) - 1}; _net_tool {TOP / 'net_tool'}; printf '%s\\n' \"${{COMPREPLY[@]}}\"")
-        done = subprocess.run(["bash", "-c", script], cwd=self.folder, capture_output=True, timeout=PATIENCE)
-        return set(done.stdout.decode().split("\n")) - {""}
-
-    def test_commands_options_and_files(self):
-        for name in ("a net.cgd", "b.archive", "c.txt", "d.arc"):
-            (self.folder / name).touch()
-        (self.folder / "deep").mkdir()
-        self.assertEqual(self.complete("net_tool", "i"), {"identify"})
-        self.assertEqual(self.complete("net_tool", ""), commands_taken() | {name.split()[0] for name in crystal_nets.commands.commands()} | {"help", "--help", "--version"})
-        self.assertEqual(self.complete("net_tool", "help", "co"), {"components", "convert", "cover"})
-        self.assertEqual(self.complete("net_tool", "key", ""), {"a net.cgd", "deep"})
-        self.assertEqual(self.complete("net_tool", "identify", "--"), {"--archive"})
-        self.assertEqual(self.complete("net_tool", "add", "--"), {"--archive", "--name"})
-        self.assertEqual(self.complete("net_tool", "identify", "--archive", ""), {"b.archive", "deep"})
-        self.assertEqual(self.complete("net_tool", "identify", "--archive", "=", "b"), {"b.archive"})
-        self.assertEqual(self.complete("net_tool", "union", ""), {"b.archive", "d.arc", "deep"})
-        self.assertEqual(self.complete("net_tool", "key", "c"), {"c.txt"})
-        self.assertEqual(self.complete("net_tool", "workload", ""), set())
-
-
-class Package(FolderTest):
-    def setUp(self):
-        super().setUp()
-        need_program()
-        need_commands("dpkg-deb", "objdump", "strip")
-
-    def build(self) -> Path:
-        run(INSTALL / "make_deb.sh", "1.0", self.folder, PROGRAM, SOURCE_DATE_EPOCH="1700000000")
-        package, = self.folder.glob("crystal-net-tool_1.0_*.deb")
-        return package
-
-    def test_what_the_package_says(self):
-        package = self.build()
-        depends = run("dpkg-deb", "-f", package, "Depends").stdout.decode()
-        self.assertRegex(depends, r"^libc6 \(>= 2\.\d+\), python3\n$")
-        content = run("dpkg-deb", "-c", package).stdout.decode()
-        for path in ("./usr/bin/net_tool", "./usr/lib/net_tool/net_tool", "./usr/share/net_tool/archives/zeolites.archive", "./usr/bin/cif2cgd ->"):
-            self.assertIn(path, content)
-        self.assertNotIn(" ./root", content)
-        self.assertIn("./usr/lib/python3/dist-packages/crystal_nets/py.typed", content)
-        self.assertIn("./usr/lib/python3/dist-packages/crystal_nets/pictures/page.html", content)
-        self.assertEqual(content.count("share/net_tool/python/crystal_nets"), 1)  # a link
-
-    def test_the_module_and_the_commands_of_the_package_work_together(self):
-        root = self.folder / "root"
-        run("dpkg-deb", "-x", self.build(), root)
-        code = "import crystal_nets as c; print(c.find_program(), c.keys([c.Net([(1, 1, (1, 0)), (1, 1, (0, 1))])])[0].key)"
-        settings = {"PYTHONPATH": str(root / "usr/lib/python3/dist-packages"), "NET_TOOL": "", "XDG_DATA_HOME": ""}
-        told = run("/usr/bin/python3", "-B", "-c", code, **settings).stdout.decode()
-        self.assertEqual(told, f"{root}/usr/lib/net_tool/net_tool 2 1 1 1 1 0 1 1 1 1 0\n")
-        blocks = run(root / "usr/bin/net_tool", "convert", root / "usr/share/net_tool/archives/common.archive", **settings).stdout
-        self.assertEqual(blocks.count(b"END\n"), (TOP / "archives/common.archive").read_bytes().count(b"\nentry "))
-
-    def test_each_command_runs_where_the_package_is_unpacked(self):
-        """By who may not install it, in a folder of any name."""
-        need_modules("gemmi", "numpy", "scipy", "flask")
-        root = self.folder / "a folder é"
-        run("dpkg-deb", "-x", self.build(), root)
-        settings = {"PYTHONPATH": "", "NET_TOOL": "", "XDG_DATA_HOME": "", "HOME": str(self.folder)}
-        commands = sorted((root / "usr/bin").iterdir())
-        self.assertGreater(len(commands), 12)
-        for command in commands:
-            self.assertLessEqual(run(command, "--help", **settings).stderr.count(b"\n"), 1, command.name)
-        named = run(root / "usr/bin/net_tool", "names", root / "usr/share/net_tool/examples/quartz.cif", **settings).stdout
-        self.assertEqual(named, b"1\tquartz\tqtz, quartz\tkey\n")
-
-    def test_the_same_sources_give_the_same_package(self):
-        first = self.build().read_bytes()
-        self.assertEqual(self.build().read_bytes(), first)
-
-    @long_test
-    def test_lintian_has_no_error_and_no_warning(self):
-        need_commands("lintian")
-        told = run("lintian", "--allow-root", "--fail-on", "none", self.build(), status=None)
-        self.assertEqual(told.stdout, b"")
-
-    @long_test
-    def test_a_fresh_system(self):
-        """Makes a Debian system of its own, from the network, and names nets there."""
-        need_commands("debootstrap")
-        if os.geteuid() != 0:
-            self.skipTest("debootstrap needs root")
-        package, system = self.build(), self.folder / "system"
-        made = run("debootstrap", "--variant=minbase", "--include=python3", "bookworm", system,
-                   "http://deb.debian.org/debian", status=None, seconds=1200)
-        if made.returncode != 0:
-            self.skipTest("debootstrap did not end well; is there a network?")
-        shutil.copy(package, system / "package.deb")
-        run("chroot", system, "dpkg", "-i", "/package.deb")
-        share = "/usr/share/net_tool"
-        told = run("chroot", system, "net_tool", "identify", f"{share}/examples/mystery.cgd",
-                   "--archive", f"{share}/archives/common.archive").stdout
-        self.assertEqual(names_told(told), EIGHT_NAMES)
-        self.assertIn(b"archives/common.archive", run("chroot", system, "net_tool", "archive", "list").stdout)
-        run("chroot", system, "dpkg", "--purge", "crystal-net-tool")
-        self.assertFalse((system / "usr/share/net_tool").exists())

@@ -88,6 +88,14 @@ class Runner(FolderTest):
         failed = [line.partition(": failed: ")[2] for line in lines]
         self.assertEqual(list(filter(None, failed)), ["test_a.Always.test_it"])
 
+    def test_what_is_skipped_alone_is_a_failure(self) -> None:
+        self.write("test_a.py", PASSES)
+        self.write("test_b.py", "class One(unittest.TestCase):\n    def test_it(self):\n"
+                   "        self.assertFalse(is_first('one'), 'the first time')\n        self.skipTest('later')\n")
+        lines = self.told(self.folder, status=1)
+        self.assertEqual(lines[-1], "tools: 1 passed, 1 failed, 0 skipped, 0 only alone")
+        self.assertTrue(any(line.endswith("the first time") for line in lines))
+
     def test_one_file_is_alone_already(self) -> None:
         self.write("test_a.py", ONCE)
         self.assertEqual(self.told(self.folder, status=1)[-1], "tools: 1 passed, 2 failed, 0 skipped, 0 only alone")

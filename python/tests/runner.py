@@ -25,6 +25,8 @@ from testing import IS_LONG, TESTS, TOP
 
 OUTCOME = "outcome: "  # begins the last line of a process that has run a file
 HAS_TIMES = os.environ.get("NET_TOOL_TIMES") == "1"
+LONGEST = ("test_install", "test_release", "test_desk_browser", "test_frameworks", "test_package", "test_sources", "test_pictures",
+           "test_files", "test_table", "test_desk_server", "test_deb", "test_shorten", "test_front", "test_desk_answers")
 MOST_LISTED = 10       # of the slowest files and tests
 
 
@@ -70,8 +72,16 @@ class Outcome:
 
     def fails(self, name: str) -> bool:
         """Whether it has a failure of a test, of the class or file that it is of, or of a test in what has this name."""
-        pairs = ((f"{failed}.", f"{name}.") for failed in self.failed)
-        return any(one.startswith(other) or other.startswith(one) for one, other in pairs)
+        return any(is_part(failed, name) or is_part(name, failed) for failed in self.failed)
+
+    def passes(self, name: str) -> bool:
+        """Whether a test passed, or tests of a class or file and all of them. What is skipped does not pass."""
+        return not self.fails(name) and any(is_part(passed, name) for passed in self.passed)
+
+
+def is_part(name: str, whole: str) -> bool:
+    """Whether a name is that of a test in a class or file, or the same one."""
+    return f"{name}.".startswith(f"{whole}.")
 
 
 class Noted(unittest.TestResult):
@@ -144,10 +154,12 @@ def run_apart(file: Path, *names: str, **settings: str) -> Outcome:
 
 
 def files_of(words: list[str]) -> list[Path]:
-    """The files of tests of folders, and those that are named; the long ones first, so that all processors end together."""
+    """The files of tests of folders, and those that are named. The LONGEST of them come first, and then the larger ones, so
+    that all processors end together."""
     paths = [Path(word).resolve() for word in words]
     files = [file for path in paths for file in (sorted(path.glob("test_*.py")) if path.is_dir() else [path])]
-    return sorted(dict.fromkeys(files), key=lambda file: -file.stat().st_size)
+    places = {stem: place for place, stem in enumerate(LONGEST)}
+    return sorted(dict.fromkeys(files), key=lambda file: (places.get(file.stem, len(places)), -file.stat().st_size))
 
 
 @dataclass
@@ -163,21 +175,23 @@ class Run:
             places = {pool.submit(run_apart, file, **settings): file for file in files}
             for done in as_completed(places):
                 self.beside[places[done]] = done.result()
-                tell_outcome(places[done], done.result())
+                tell_outcome(places[done], done.result(), is_alone=len(files) == 1)
         for file, outcome in self.beside.items():
             if outcome.failed:  # one file has been alone already
                 self.alone[file] = run_apart(file, *outcome.failed) if len(files) > 1 else outcome
 
     @property
     def failed(self) -> Iterator[tuple[Path, str, str]]:
-        """Each failure that is one alone too, with its text."""
-        return ((file, name, text) for file, outcome in self.alone.items() for name, text in outcome.failed.items())
+        """Each failure that is one alone too, with its text; and each one beside others that is skipped alone."""
+        for file, outcome in self.alone.items():
+            skipped = {name: text for name, text in self.beside[file].failed.items() if not outcome.fails(name) and not outcome.passes(name)}
+            yield from ((file, name, text) for name, text in {**outcome.failed, **skipped}.items())
 
     @property
     def only_alone(self) -> Iterator[tuple[Path, str, str]]:
-        """Each failure beside others that is none alone, with its text."""
+        """Each failure beside others of what passes alone, with its text."""
         return ((file, name, self.beside[file].failed[name]) for file, outcome in self.alone.items()
-                for name in self.beside[file].failed if not outcome.fails(name))
+                for name in self.beside[file].failed if outcome.passes(name))
 
     @property
     def passed(self) -> set[tuple[Path, str]]:
@@ -194,11 +208,11 @@ def called(file: Path) -> str:
     return os.path.relpath(file, TOP)
 
 
-def tell_outcome(file: Path, outcome: Outcome) -> None:
+def tell_outcome(file: Path, outcome: Outcome, is_alone: bool) -> None:
     """What the tests of a file printed, why some were skipped, which failed, and how long it took if that is asked for."""
     lines = [outcome.printed] if outcome.printed else []
     lines += [f"{called(file)}: skipped {outcome.skipped.count(reason)}: {reason}" for reason in sorted(set(outcome.skipped))]
-    lines += [f"{called(file)}: {name} failed, and is run alone at the end" for name in outcome.failed]
+    lines += [f"{called(file)}: {name} failed, and is run alone at the end" for name in outcome.failed if not is_alone]
     lines += [f"{called(file)}: {outcome.whole}"] * HAS_TIMES
     print("".join(f"{line}\n" for line in lines), end="", flush=True)
 

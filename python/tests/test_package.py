@@ -10,7 +10,7 @@ import sys
 import tomllib
 import unittest
 
-from testing import PROGRAM, PYTHON, TOP, FolderTest, command, long_test, need_modules, need_program, run
+from testing import IS_LONG, PROGRAM, PYTHON, TOP, FolderTest, command, long_test, need_modules, need_program, run
 
 from crystal_nets import commands, options
 
@@ -153,7 +153,8 @@ class Commands(FolderTest):
                 self.assertEqual(done.stderr.decode(), f"{link} is 'net_tool {name}' now\n")
 
     def test_the_examples_of_help_run(self):
-        """Two of each subcommand, as they are typed in the folder of the repository; those of the page and of RCSR's file aside."""
+        """Two of each subcommand, as they are typed in the folder of the repository; those of the page and of RCSR's file aside,
+        and that of the pages of all archives, which takes long."""
         need_program()
         need_modules("gemmi", "numpy", "scipy", "spglib")
         (self.folder / "bin").mkdir()
@@ -168,6 +169,8 @@ class Commands(FolderTest):
             self.assertEqual(len(lines), 2, name)
             for line in lines if name not in ("desk", "archive rcsr") and "~" not in lines[1] else lines[:name == "archive index"]:
                 self.assertTrue(line.startswith("net_tool "), line)
+                if line == "net_tool gallery pages" and not IS_LONG:
+                    continue
                 done = run("sh", "-c", f"cd {self.folder} && {line}", PATH=f"{self.folder}/bin:{os.environ['PATH']}", status=None,
                            XDG_DATA_HOME=str(self.folder))
                 self.assertIn(done.returncode, (0, 1), line)  # 1 if some net has no key
@@ -180,6 +183,16 @@ class Commands(FolderTest):
     def test_an_option_that_is_none_is_refused_beside_an_archive(self):
         said = run(command("convert"), "--no-such", TOP / "archives/common.archive", status=2).stderr
         self.assertIn(b"unrecognized arguments: --no-such", said)
+
+    def test_numbers_that_are_none_are_told(self):
+        """By what they may be, and by no name of the code."""
+        need_modules("gemmi", "numpy", "scipy")
+        for name, words in (("convert", "--as structure --jobs {} x"), ("table", "--jobs {} x y"), ("table", "--seconds {} x y"),
+                            ("draw", "--page x --jobs {}"), ("draw", "--page x --only {}"), ("draw", "--png x --width {}"),
+                            ("gallery", "--jobs {} x"), ("desk", "--port {}"), ("desk", "--seconds {}"), ("desk", "--memory {}")):
+            for value in ("x", "-1", "1.5", "9" * 5000, "٣"):
+                said = run(command(name), *(value if word == "{}" else word for word in words.split()), status=2).stderr.decode()
+                self.assertRegex(said, r"error: argument --\w[\w-]*: ('.*' is not a whole number from \d+ to \d+|expected one argument)\n$", (name, words, value[:9]))
 
     def test_what_has_not_the_form_is_told_in_one_line(self):
         for name, words in (("archive list", [os.devnull + "/absent"]), ("archive list", [TOP / "README.md"]), ("draw", ["--page", "x"]), ("gallery", ["x", os.devnull + "/absent"])):

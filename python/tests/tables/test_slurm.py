@@ -4,11 +4,10 @@ import os
 import signal
 import socket
 import subprocess
-import time
 from pathlib import Path
 
 from odd_cells import text_of_odd_nets
-from testing import PROGRAM, TOP, FolderTest, command, long_test, need_commands, need_program, run
+from testing import PATIENCE, PROGRAM, TOP, FolderTest, command, long_test, need_commands, need_program, run, wait_until
 
 SBATCH = TOP / "python/crystal_nets/tables/nets.sbatch"
 COUNT = 10_000
@@ -46,16 +45,6 @@ def free_ports(count: int) -> list[int]:
     for one in sockets:
         one.close()
     return ports
-
-
-def comes(is_there, seconds: float = 120) -> bool:
-    """Whether something comes within some seconds."""
-    until = time.monotonic() + seconds
-    while not is_there():
-        if time.monotonic() > until:
-            return False
-        time.sleep(0.2)
-    return True
 
 
 class Slurm(FolderTest):
@@ -110,7 +99,7 @@ class Slurm(FolderTest):
     def end(child, log):
         child.send_signal(signal.SIGTERM)
         try:
-            child.wait(20)
+            child.wait(PATIENCE)
         except subprocess.TimeoutExpired:
             os.killpg(child.pid, signal.SIGKILL)
             child.wait()
@@ -118,7 +107,9 @@ class Slurm(FolderTest):
 
     def wait_for(self, is_there):
         """Waits for a part of Slurm, without which nothing can be tried."""
-        if not comes(is_there):
+        try:
+            wait_until(is_there)
+        except AssertionError:
             self.skipTest("Slurm does not start here")
 
     def run_array(self, status, folder="pieces", **settings):
@@ -154,14 +145,14 @@ class Slurm(FolderTest):
         words = ("sbatch", "--wait", "--array=0-7:2", "--mem-per-cpu=100M", f"--chdir={self.folder}", SBATCH, TOP / "net_tool", table)
         first = subprocess.Popen(list(map(str, words)), stdout=subprocess.DEVNULL, stderr=subprocess.DEVNULL,
                                  env={**os.environ, **self.settings, "NET_TOOL": str(program)})
-        self.assertTrue(comes(lambda: len(list(table.glob("work/*.rows"))) > 1))
+        wait_until(lambda: len(list(table.glob("work/*.rows"))) > 1)
         self.kill_node()
         done = {file: file.stat().st_mtime_ns for file in table.glob("work/*.rows")}
         run("scancel", "--full", "-u", "root", status=None, **self.settings)
         self.start_node()
         first.wait(120)
         (self.folder / "odd").unlink()
-        run(*words, seconds=300, **self.settings, NET_TOOL=str(program))
+        run(*words, seconds=PATIENCE, **self.settings, NET_TOOL=str(program))
         self.assertEqual({file: file.stat().st_mtime_ns for file in done}, done)
         run(command("table"), table, "--no-names", status=None, NET_TOOL=str(program))
         self.assertEqual((table / "table.tsv").read_text().count("\n"), COUNT + 1)
