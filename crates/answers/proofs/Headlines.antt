@@ -28,6 +28,7 @@ headline_with file archive accepted status text a read r e = record {
   bare_blocks = r.are_outcomes.bare_keys;
   bare_entries = r.are_outcomes.bare_entry_keys;
   bare_archive_entries = r.are_outcomes.bare_archive_keys;
+  key_lines = r.are_outcomes.key_lines;
   refused = r.are_outcomes.refused;
   refused_entries = r.are_outcomes.refused_entries;
   certain = r.are_outcomes.certain identify_is_not_components;

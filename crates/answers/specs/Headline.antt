@@ -8,7 +8,7 @@ use Rattle.block_answers.specs.Outcomes.{Outcome, AreOutcomesFrom, is_accepted}
 use Rattle.block_answers.specs.Reports.{report_text}
 use Rattle.net_archive.specs.Deciding.{KeysDecideArchive}
 use Rattle.periodic_net.specs.Maps.{BareIso, Iso}
-use Rattle.block_answers.specs.Deciding.{KeysDecideBlocks, KeysDecideEntries, CertainAreAccepted, RefusedAreApart, RefusedAreNoEntries}
+use Rattle.block_answers.specs.Deciding.{KeyLinesDecideBlocks, KeysDecideBlocks, KeysDecideEntries, CertainAreAccepted, RefusedAreApart, RefusedAreNoEntries}
 use Rattle.archive_answers.specs.ArchiveBytes.{IsArchiveIn}
 use Rattle.net_report.specs.declared.status.Status.{Status}
 use Rattle.net_report.specs.declared.status.Status.TheVariants.{Done, SomeRefused}
@@ -36,6 +36,8 @@ pub record Headline (file : List ℕ) (archive : Option (List ℕ)) (status : St
   pub bare_blocks : KeysDecideBlocks BareIso (blocks_of file) outcomes
   pub bare_entries : KeysDecideEntries BareIso known.entries (blocks_of file) outcomes
   pub bare_archive_entries : KeysDecideArchive BareIso known.entries
+  -- and so are the printed lines of two keys
+  pub key_lines : KeyLinesDecideBlocks (blocks_of file) outcomes
   -- what is refused for what it is in each cell is neither the net of an accepted block nor that of an entry
   pub refused : RefusedAreApart (blocks_of file) outcomes
   pub refused_entries : RefusedAreNoEntries known.entries (blocks_of file) outcomes

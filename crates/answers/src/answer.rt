@@ -1,28 +1,75 @@
 // What is due to the arguments, of the bytes of the files that they name.
-ghost use Rattle.std.specs.Prelude.{◌≡◌, ◌≤◌, ◌<◌, All, IfOk, IsErrOf, MatchResult, length};
-ghost use Rattle.cgd_read.specs.Blocks.{IsReadBody, blocks_of, most_blocks};
+ghost use Rattle.std.specs.Prelude.{◌≤◌, All, IfOk, length, ◌≡◌, ◌<◌, IsErrOf, MatchResult};
 ghost use Rattle.cgd_read.specs.Views.{views};
+ghost use Rattle.cgd_read.specs.Blocks.{IsReadBody, most_blocks, blocks_of};
 ghost use Rattle.command_words.specs.Tasks.{MakesFew};
 ghost use Rattle.command_words.specs.Views.{blocks_view, task_view};
 ghost use Rattle.archive_answers.specs.ArchiveBytes.{AreFew};
+ghost use Rattle.answers.specs.Due.{IsReportAs, AreGroupsAs, IsMigratedAs, HasBecomeFor, HasFirstFor, HasTooMany, IsDueFor, IsDueToBlocks, IsDueWith, bytes_of};
 ghost use Rattle.answers.specs.Bytes.{bytes_in, most_bytes};
-ghost use Rattle.answers.specs.Due.{HasBecomeFor, HasFirstFor, HasTooMany, IsDueFor, IsDueToBlocks, IsDueWith, bytes_of};
 ghost use Rattle.answers.specs.Endings.{GoesWithText};
 
 use crate::adding::add_blocks;
-use crate::entries::{groups_of, migration_of};
-use crate::reports::report_on;
 use crate::workloads::summary_of;
-use archive_answers::{archive_in, union_of};
+use archive_answers::{archive_in, groups_text, migrate_fault_text, union_of};
+use block_answers::tell_blocks;
 use cgd_read::{Block, blocks};
 use command_words::{BlocksTask, Task};
 use cover_answers::cover_blocks;
 use map_answers::{same_blocks, verify_answer};
-use net_archive::Archive;
-use net_report::{Answer, Command, Silence, Status};
+use net_archive::{Archive, MigrateFault};
+use net_report::{Answer, Command, Silence, Status, ending_of};
 use std::alloc::{AllocError as NoMemory, Global};
 use symmetry_answers::symmetry_of;
 use workload::workload_text;
+
+/// What a command reports on each block, beside an archive.
+pub fn report_on(
+    alloc: Global,
+    command: Command,
+    archive: &Archive,
+    found: &[Block<'_>],
+) -> Result<Answer, NoMemory>
+    requires graphs { All (λ block. IsReadBody block.body) found.now }
+    requires few { length found.now ≤ most_blocks }
+    ensures { IfOk result (λ a.
+        IsReportAs command archive.now.entries (views found.now) a.status a.text.items) }
+{
+    let told = tell_blocks(alloc, command, archive, found)?;
+    Ok(Answer {
+        status: ending_of(told.all_accepted),
+        text: told.text,
+    })
+}
+
+/// The groups of entries whose nets are isomorphic.
+pub fn groups_of(alloc: Global, archive: &Archive) -> Result<Answer, NoMemory>
+    ensures { IfOk result (λ a. AreGroupsAs archive.now a.status a.text.items) }
+{
+    let groups = archive.duplicates()?;
+    let text = groups_text(alloc, archive.entries(), &groups)?;
+    Ok(Answer {
+        status: Status::Done,
+        text,
+    })
+}
+
+/// The archive in the newest format, or that it would be too long.
+pub fn migration_of(alloc: Global, archive: &Archive) -> Result<Answer, NoMemory>
+    ensures { IfOk result (λ a. IsMigratedAs archive.now a.status a.text.items) }
+{
+    match archive.migrated() {
+        Ok(text) => Ok(Answer {
+            status: Status::Done,
+            text,
+        }),
+        Err(MigrateFault::Full { length }) => Ok(Answer {
+            status: Status::MigrateRefused,
+            text: migrate_fault_text(alloc, length)?,
+        }),
+        Err(MigrateFault::NoMemory) => Err(NoMemory),
+    }
+}
 
 // The answer to a task, of the blocks of its file and of its archive, to which `add` adds them.
 fn answer_for(

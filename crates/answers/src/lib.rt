@@ -3,9 +3,7 @@
 
 mod adding;
 mod answer;
-mod entries;
 mod laws;
-mod reports;
 mod workloads;
 
 pub use answer::answer_to;

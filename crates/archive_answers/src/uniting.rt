@@ -1,18 +1,52 @@
-// Unites an archive with the nets of a file: another archive, or a text of key lines.
-ghost use Rattle.std.specs.Prelude.{◌≡◌, ◌≤◌, ◌<◌, All, IfErr, IfOk, IsErrOf, length};
-ghost use Rattle.archive_answers.specs.ArchiveBytes.{AreFew, IsArchiveIn, IsBadArchive, bytes_in, most_bytes};
+// The union of an archive and of the items of a text, or of another archive.
+ghost use Rattle.std.specs.Prelude.{All, IfOk, ◌≡◌, ◌≤◌, ◌<◌, IfErr, IsErrOf, length};
 ghost use Rattle.keyline_import.specs.Items.{items_of, most_items};
-ghost use Rattle.net_archive.specs.Archives.{IsEntry, most_entries};
 ghost use Rattle.archive_text.specs.Entries.{entry_view, entry_views};
+ghost use Rattle.net_report.specs.KindsTold.{AreKindsOfAll, AreKindsTold};
+ghost use Rattle.net_archive.specs.Archives.{IsEntry, most_entries};
+ghost use Rattle.archive_answers.specs.ItemEntries.{AreEntriesTold, HasNamedNet, IsEntryTold};
+ghost use Rattle.archive_answers.specs.ArchiveBytes.{AreFew, IsArchiveIn, IsBadArchive, bytes_in, most_bytes};
 ghost use Rattle.archive_answers.specs.Unions.{HasManyItems, IsUnionDue, IsUnionOfArchives, IsUnionOfItems, IsUnitedOrRefused, begins_archive};
 
-use crate::entries::entries_of;
 use crate::{NoMemory, add_fault_text, archive_in, outcomes_of};
 use archive_union::{UniteFault, unite};
 use keyline_import::items;
-use net_archive::{Archive, Entry};
-use net_report::{Answer, Silence, Status, are_accepted, report};
+use least_key::Kinds;
+use net_archive::{Archive, Entry, entry_of};
+use net_report::{Answer, Outcome, OutcomeBody, Silence, Status, are_accepted, report};
 use std::alloc::Global;
+
+// The entry of an item, under its name.
+fn entry_told(alloc: Global, outcome: &Outcome<'_>, kinds: &Kinds) -> Result<Entry, NoMemory>
+    requires named { HasNamedNet outcome.now }
+    requires kinds { AreKindsTold outcome.now.body kinds.now }
+    ensures told { IfOk result (λ e. IsEntryTold outcome.now (entry_view e)) }
+    ensures entry { IfOk result (λ e. IsEntry (entry_view e)) }
+{
+    match (&outcome.body, outcome.name) {
+        (OutcomeBody::Keyed(_, net), Some(name)) => entry_of(alloc, name, net, kinds),
+        _ => unreachable!(),
+    }
+}
+
+/// The entries of items, in their order. Beside each outcome stand kinds of the classes of its net.
+#[tactic(auto, using(crate::proofs::ItemEntries::named_at))]
+pub fn entries_of(
+    alloc: Global,
+    outcomes: &[Outcome<'_>],
+    kinds: &[Kinds],
+) -> Result<Vec<Entry>, NoMemory>
+    requires named { All HasNamedNet outcomes.now }
+    requires kinds { AreKindsOfAll outcomes.now kinds.now }
+    ensures told { IfOk result (λ es. AreEntriesTold outcomes.now (entry_views es.items)) }
+    ensures each { IfOk result (λ es. All (λ e. IsEntry (entry_view e)) es.items) }
+{
+    let mut entries = Vec::new(alloc);
+    for (i, outcome) in outcomes.iter().enumerate() {
+        entries.push(entry_told(alloc, outcome, &kinds[i])?)?;
+    }
+    Ok(entries)
+}
 
 // Whether the bytes begin as those of an archive do.
 fn begins_archive(bytes: &[u8]) -> bool

@@ -19,6 +19,9 @@ use Rattle.net_archive.{specs.Archives.IsEntry, proofs.CallerLemmas.keys_decide_
 use Rattle.net_report.specs.declared.outcome.OutcomeBody.TheVariants.{Refused, Checked, Located, Keyed, Identified}
 use Rattle.net_report.specs.declared.command.Command.TheVariants.{Check, Place, Key, Identify, Components}
 use Rattle.net_report.specs.declared.{outcome.Outcome.Outcome, command.Command.Command, outcome.OutcomeBody.OutcomeBody}
+use Rattle.net_report.{specs.Keys.key_text, specs.Telling.IsBodyPrintedWhole, specs.Telling.IsPrintedWhole, proofs.CallerLemmas.key_lines_tell}
+use Rattle.line_text.specs.Numbers.{IsWide}
+use Rattle.block_answers.specs.Laws.{KeyLinesDecide}
 use Rattle.block_answers.specs.Deciding.{AreOutcomes, HasKeyAt, IsAcceptedAt, IsBlockAt, IsOfNet, IsRefusedAt, KeysDecideBlocks, KeysDecideEntries}
 use Rattle.block_answers.specs.Deciding.{RefusedAreApart, RefusedAreNoEntries, key_told, refusal_told}
 use Rattle.block_answers.specs.Outcomes.{IsBodyOf, AreOutcomesFrom, IsRefusedAs, MayTell, is_accepted_body}
@@ -239,6 +242,29 @@ bodies_decide entries entries' command command' raw raw' told told' xs ys h h' e
     carried_decide BareIso bare_carried (graph_of raw) a.graph (graph_of raw') b.graph (xs ≡ ys) (in_order_iso (graph_of raw) a.graph a.in_order)
     (in_order_iso (graph_of raw') b.graph b.in_order) (keys_decide_bare a.graph b.graph xs ys c.0 d.0 c.1 d.1)
 
+-- what is reported of the block at place i is printed whole
+whole_at : (entries : List EntryView) (command : Command) (n i : ℕ) (bs : List BlockView) (os : List Outcome) (o : Outcome)
+    → AreOutcomesFrom entries command n bs os → i < length bs → slice_index_or os i o ≡ o → IsPrintedWhole o
+whole_at entries command n i [] os o h l e = absurd (omega (arith, l))
+whole_at entries command n i (b ∷ bs) [] o h l e = absurd h
+whole_at entries command n zero (b ∷ bs) (x ∷ os) o h l e = subst IsPrintedWhole e h.0.whole
+whole_at entries command n (suc i) (b ∷ bs) (x ∷ os) o h l e = whole_at entries command (n + 1) i bs os o h.1 (omega (arith, l)) e
+
+key_whole : (body : OutcomeBody) (xs : List ℤ) → IsBodyPrintedWhole body → key_told body ≡ Some xs → All IsWide xs
+key_whole (Keyed size net) xs h e = subst (All IsWide) (some_is (net_view net).key xs e) h.1
+key_whole (Identified size vertices net shells names) xs h e = subst (All IsWide) (some_is (net_view net).key xs e) h.1
+key_whole body xs h e = absurd (true≢false (sym (ap is_some e)))
+
+-- so the printed lines of two keys decide
+pub key_lines_decide : KeyLinesDecide
+key_lines_decide entries entries' command command' bs cs os ps h h' i j raw raw' xs ys k l =
+    let d = bodies_decide entries entries' command command' raw raw' k.outcome.body l.outcome.body xs ys
+    (told_at entries command bs os h i k.block k.outcome raw k.at k.graph) (told_at entries' command' cs ps h' j l.block l.outcome raw' l.at l.graph)
+    k.told l.told in
+    let wide = key_whole k.outcome.body xs (whole_at entries command 1 i bs os k.outcome h k.at.inside k.at.outcome_is).body k.told in
+    let wide' = key_whole l.outcome.body ys (whole_at entries' command' 1 j cs ps l.outcome h' l.at.inside l.at.outcome_is).body l.told in
+    ((λ e. d.0 (key_lines_tell xs ys wide wide' e)), (λ b. ap key_text (d.1 b)))
+
 -- a refusal of a certain graph is none
 certain_not_refused : (command : Command) (raw : RawView) (size : _) (names : List (List ℕ)) (refusal : _) → IsGraph (graph_of raw)
     → IsRefusedAs command raw size names refusal
@@ -271,6 +297,7 @@ outcomes_decide entries command blocks outcomes h good graphs = record {
   bare_keys = keys_decide_blocks BareIso keys_decide_bare bare_carried entries command blocks outcomes h;
   bare_entry_keys = keys_decide_entries BareIso keys_decide_bare bare_carried entries command blocks outcomes h good;
   bare_archive_keys = keys_decide_archive BareIso keys_decide_bare entries good;
+  key_lines = key_lines_decide entries entries command command blocks blocks outcomes outcomes h h;
   refused = refused_are_apart entries command blocks outcomes h;
   refused_entries = refused_are_no_entries entries command blocks outcomes h good;
   certain = λ other i block outcome raw at is certain.

@@ -2,6 +2,7 @@ pub mod CallerLemmas
 pub mod KeysDecideNets
 pub mod Listing
 pub mod NetOutcomes
+pub mod OnLines
 pub mod OneOutcome
 pub mod Printing
 pub mod Refusals

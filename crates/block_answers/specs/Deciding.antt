@@ -13,6 +13,7 @@ use Rattle.least_key.specs.declared.refusal.Refusal.{Refusal}
 use Rattle.least_key.specs.declared.refusal.Refusal.TheVariants.{Disconnected, Degenerate, Collision, TooMuch}
 use Rattle.archive_text.specs.Entries.{EntryView}
 use Rattle.net_archive.specs.Deciding.{KeysDecideArchive}
+use Rattle.net_report.specs.Keys.{key_text}
 use Rattle.net_report.specs.declared.outcome.Outcome.{Outcome}
 use Rattle.net_report.specs.declared.outcome.OutcomeBody.{OutcomeBody}
 use Rattle.net_report.specs.declared.outcome.OutcomeBody.TheVariants.{Refused, Keyed, Identified}
@@ -51,6 +52,12 @@ abbrev pub KeysDecideEntries : (Graph → Graph → Type 0) → List EntryView �
 KeysDecideEntries Same entries blocks outcomes =
     (i : ℕ) (raw : RawView) (xs : List ℤ) (e : EntryView) → HasKeyAt blocks outcomes i raw xs → Contains entries e
     → (xs ≡ e.key) ↔ Same (graph_of raw) e.graph
+
+-- the printed lines of the keys of two blocks are equal if and only if the infinite graphs are isomorphic, by any bijection
+abbrev pub KeyLinesDecideBlocks : List BlockView → List Outcome → Type 0
+KeyLinesDecideBlocks blocks outcomes =
+    (i j : ℕ) (raw raw' : RawView) (xs ys : List ℤ) → HasKeyAt blocks outcomes i raw xs → HasKeyAt blocks outcomes j raw' ys
+    → (key_text xs ≡ key_text ys) ↔ BareIso (graph_of raw) (graph_of raw')
 
 -- the refusal that is reported of a block
 abbrev pub refusal_told : OutcomeBody → Option Refusal
@@ -102,8 +109,9 @@ CertainAreAccepted blocks outcomes =
     → ((G : Graph) → IsInOrder (graph_of raw) G → IsCertain G) → is_accepted outcome ≡ true
 
 -- These are the outcomes of the blocks under a command, beside an archive with these entries: one of each block, in order. Two keys, of
--- blocks or of entries, are equal if and only if the nets are isomorphic, by a bijection with a period or by any. A net that is refused for
--- what it is in each cell is that of no accepted block and of no entry. And but for the components, a block whose graph is certain is accepted.
+-- blocks or of entries, are equal if and only if the nets are isomorphic, by a bijection with a period or by any. So are the printed lines of
+-- two keys. A net that is refused for what it is in each cell is that of no accepted block and of no entry. And but for the components, a
+-- block whose graph is certain is accepted.
 pub record AreOutcomes (command : Command) (entries : List EntryView) (blocks : List BlockView) (outcomes : List Outcome) : Type 0 where
   pub each : AreOutcomesFrom entries command 1 blocks outcomes
   pub keys : KeysDecideBlocks Iso blocks outcomes
@@ -112,6 +120,7 @@ pub record AreOutcomes (command : Command) (entries : List EntryView) (blocks : 
   pub bare_keys : KeysDecideBlocks BareIso blocks outcomes
   pub bare_entry_keys : KeysDecideEntries BareIso entries blocks outcomes
   pub bare_archive_keys : KeysDecideArchive BareIso entries
+  pub key_lines : KeyLinesDecideBlocks blocks outcomes
   pub refused : RefusedAreApart blocks outcomes
   pub refused_entries : RefusedAreNoEntries entries blocks outcomes
   pub certain : command ≢ Components → CertainAreAccepted blocks outcomes

@@ -1,5 +1,5 @@
 -- What is reported of blocks is one, and a refusal of a net holds in each of its cells.
-use Rattle.std.specs.Prelude.{◌≡◌, ◌↔◌, ℕ, ℤ, All, Bool, List, map, Some, Result}
+use Rattle.std.specs.Prelude.{◌≡◌, ◌↔◌, ℕ, ℤ, Bool, List, map, Result}
 use Rattle.periodic_net.specs.Graph.{Graph, IsGraph}
 use Rattle.integers.specs.Lists.{AreMatched}
 use Rattle.periodic_net.specs.Maps.{BareIso, Iso}
@@ -14,13 +14,10 @@ use Rattle.archive_text.specs.Entries.{EntryView}
 use Rattle.net_report.specs.declared.command.Command.{Command}
 use Rattle.net_report.specs.declared.command.Command.TheVariants.{Key}
 use Rattle.net_report.specs.declared.outcome.Outcome.{Outcome}
-use Rattle.net_report.specs.declared.outcome.OutcomeBody.{OutcomeBody}
-use Rattle.net_report.specs.{Keys.key_text, Reports.report_text, Telling.AreAllLegible}
-use Rattle.line_text.specs.Numbers.{IsWide}
-use Rattle.cgd_read.specs.{Graphs.graph_of, Views.RawView}
-use Rattle.cgd_read.specs.Views.{Net as ReadNet}
-use Rattle.block_answers.specs.Deciding.{HasKeyAt, IsOfNet, key_told}
-use Rattle.block_answers.specs.Outcomes.{AreOutcomesFrom, IsBodyOf}
+use Rattle.net_report.specs.{Keys.key_text, Reports.report_text, Telling.AreEach, Telling.IsLegible}
+use Rattle.cgd_read.specs.{Blocks.blocks_of, Graphs.graph_of, Views.RawView}
+use Rattle.block_answers.specs.Deciding.{HasKeyAt, IsOfNet}
+use Rattle.block_answers.specs.Outcomes.{AreOutcomesFrom}
 use Rattle.block_answers.specs.Reports.{IsReport}
 use Rattle.block_answers.specs.ComponentLines.{IsAnswerOf}
 
@@ -42,15 +39,21 @@ pub record PartsTell : Type 0 where
   pub bare : (ps : List Part) (answers : List (Result Net Refusal)) → AreMatched IsAnswerOf ps answers
       → KeysTell BareIso (map (λ (p : Part). p.graph) ps) answers
 
--- the lines of the keys of two nets, of one report or of two, are equal if and only if some bijection between the vertices of the nets
+-- the printed lines of the keys of two nets, of one report or of two, are equal if and only if some bijection between the vertices of the nets
 -- joins images if and only if the vertices are joined
 abbrev pub KeyLinesDecide : Type 0
-KeyLinesDecide = (entries entries' : List EntryView) (command command' : Command) (raw raw' : RawView) (told told' : OutcomeBody) (xs ys : List ℤ)
-    → IsBodyOf entries command (ReadNet raw) told → IsBodyOf entries' command' (ReadNet raw') told' → key_told told ≡ Some xs → key_told told' ≡ Some ys
-    → All IsWide xs → All IsWide ys → (key_text xs ≡ key_text ys) ↔ BareIso (graph_of raw) (graph_of raw')
+KeyLinesDecide = (entries entries' : List EntryView) (command command' : Command) (bs cs : List BlockView) (os ps : List Outcome)
+    → AreOutcomesFrom entries command 1 bs os → AreOutcomesFrom entries' command' 1 cs ps
+    → (i j : ℕ) (raw raw' : RawView) (xs ys : List ℤ) → HasKeyAt bs os i raw xs → HasKeyAt cs ps j raw' ys
+    → (key_text xs ≡ key_text ys) ↔ BareIso (graph_of raw) (graph_of raw')
 
--- if two reports of `key` have one text, the nets at each place with two keys are isomorphic
+-- what `key` reports on the blocks of a text is legible
+abbrev pub ReportsAreLegible : Type 0
+ReportsAreLegible = (entries : List EntryView) (file : List ℕ) (os : List Outcome) → AreOutcomesFrom entries Key 1 (blocks_of file) os → AreEach IsLegible os
+
+-- if two reports of `key`, on the blocks of two texts, are one text, the nets at each place with two keys are isomorphic
 abbrev pub EqualReportsTell : Type 0
-EqualReportsTell = (entries entries' : List EntryView) (bs cs : List BlockView) (os ps : List Outcome) → AreOutcomesFrom entries Key 1 bs os
-    → AreOutcomesFrom entries' Key 1 cs ps → AreAllLegible os → AreAllLegible ps → report_text os ≡ report_text ps
-    → (i : ℕ) (raw raw' : RawView) (xs ys : List ℤ) → HasKeyAt bs os i raw xs → HasKeyAt cs ps i raw' ys → BareIso (graph_of raw) (graph_of raw')
+EqualReportsTell = (entries entries' : List EntryView) (file file' : List ℕ) (os ps : List Outcome) → AreOutcomesFrom entries Key 1 (blocks_of file) os
+    → AreOutcomesFrom entries' Key 1 (blocks_of file') ps → report_text os ≡ report_text ps
+    → (i : ℕ) (raw raw' : RawView) (xs ys : List ℤ) → HasKeyAt (blocks_of file) os i raw xs → HasKeyAt (blocks_of file') ps i raw' ys
+    → BareIso (graph_of raw) (graph_of raw')

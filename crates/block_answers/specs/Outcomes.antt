@@ -26,6 +26,7 @@ use Rattle.least_key.specs.declared.path.AnyPlaced.{AnyPlaced}
 use Rattle.least_key.specs.declared.refusal.Refusal.{Refusal}
 use Rattle.least_key.specs.declared.refusal.Refusal.TheVariants.{NoMemory}
 use Rattle.net_report.specs.declared.command.Command.{Command}
+use Rattle.net_report.specs.Telling.{IsPrintedWhole}
 use Rattle.net_report.specs.declared.command.Command.TheVariants.{Check, Place, Key, Identify, Components}
 
 -- its sizes
@@ -109,12 +110,13 @@ IsBodyOf entries Identify (Net raw) (Identified size vertices net shells names) 
 IsBodyOf entries Components (Net raw) (Lines size lines) = (accepted : Bool) × IsDividedAs raw size accepted lines
 IsBodyOf entries command body told = ⊥
 
--- the outcome of the block with this number
+-- the outcome of the block with this number, whose numbers are printed whole
 pub record IsOutcomeOf (entries : List EntryView) (command : Command) (number : ℕ) (block : BlockView) (o : Outcome) : Type 0 where
   pub number_is : o.number ≡ number
   pub line : o.line ≡ block.line
   pub name : option_copied o.name ≡ block.name
   pub body : IsBodyOf entries command block.body o.body
+  pub whole : IsPrintedWhole o
 
 -- one outcome for each block, with the blocks numbered from this number on
 abbrev pub AreOutcomesFrom : List EntryView → Command → ℕ → List BlockView → List Outcome → Type 0

@@ -1,6 +1,6 @@
 // What holds of reports. The function carries a theorem.
 ghost use Rattle.block_answers.specs.ComponentLaws.{OneTelling};
-ghost use Rattle.block_answers.specs.Laws.{EqualReportsTell, KeyLinesDecide, OneReport, PartsTell, RefusalsTell};
+ghost use Rattle.block_answers.specs.Laws.{EqualReportsTell, KeyLinesDecide, OneReport, PartsTell, RefusalsTell, ReportsAreLegible};
 
 /// What is reported of the components of a net is one.
 pub fn one_telling()
@@ -23,9 +23,14 @@ pub fn parts_tell()
     ensures theorem { PartsTell }
 {}
 
-/// Lines of keys are equal if and only if the nets are isomorphic.
+/// Printed lines of keys are equal if and only if the nets are isomorphic.
 pub fn key_lines_decide()
     ensures theorem { KeyLinesDecide }
+{}
+
+/// What `key` reports on the blocks of a text is legible.
+pub fn reports_are_legible()
+    ensures theorem { ReportsAreLegible }
 {}
 
 /// Equal reports of `key` have isomorphic nets at each place.

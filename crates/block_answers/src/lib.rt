@@ -11,6 +11,7 @@ mod telling;
 pub use component_lines::tell_components;
 pub use laws::{
     equal_reports_tell, key_lines_decide, one_report, one_telling, parts_tell, refusals_tell,
+    reports_are_legible,
 };
 pub use net_archive::Archive;
 pub use net_report::{Judged, KeyedOutcomes, Outcome, OutcomeBody, are_accepted, report};

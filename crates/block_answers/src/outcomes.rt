@@ -30,14 +30,16 @@ pub fn outcome_of<'a>(
     ensures printable { IfOk result (λ judged. IsPrintable judged.told) }
 {
     let body = body_of(alloc, command, archive, block)?;
+    let outcome = Outcome {
+        number,
+        line: block.line,
+        name: block.name,
+        body: body.told,
+    };
+    outcome.recall(); // its numbers are printed whole
     Ok(Judged {
         accepted: body.accepted,
-        told: Outcome {
-            number,
-            line: block.line,
-            name: block.name,
-            body: body.told,
-        },
+        told: outcome,
     })
 }
 
@@ -60,6 +62,7 @@ pub fn keyed_outcome_of<'a>(
         name: block.name,
         body,
     };
+    outcome.recall(); // its numbers are printed whole
     Ok((outcome, kinds))
 }
 

@@ -7,7 +7,7 @@ use Rattle.map_check.specs.{declared.verdict.Verdict.Verdict, Conditions.most_im
 use Rattle.net_certificate.specs.Items.{IsFormedItem, ItemView, Maps, Without, With, IsTold}
 use Rattle.net_certificate.specs.{Reading.MayStand, Reading.IsTextOf, Checks.IsChecked, Checks.Tells}
 use Rattle.net_certificate.specs.Results.{AreVerdicts, IsVerdictOf, refused_count, result_rows}
-use Rattle.net_certificate.specs.declared.{checking.CheckedMaps.CheckedMaps, answer.MapAnswer.MapAnswer}
+use Rattle.net_certificate.specs.declared.{checking.CheckedMaps.CheckedMaps, maps.MapAnswer.MapAnswer}
 use Rattle.net_certificate.proofs.CallerLemmas.{texts_tell, one_verdict, no_fault, one_text, found_maps_pass, found_few}
 use Rattle.net_report.specs.declared.status.Status.TheVariants.{Done, SomeRefused, BadMap}
 use Rattle.net_report.specs.{Statuses.ending_of, declared.status.Status.Status}
@@ -16,7 +16,7 @@ use Rattle.cgd_read.specs.{Blocks.most_blocks, Views.BlockView}
 use Rattle.graph_rows.specs.Reading.{IsFormedGraph}
 use Rattle.least_key.{specs.KeyedNets.KeyedNet, proofs.CallerLemmas.key_of_graph}
 use Rattle.net_certificate.specs.Answers.{IsMapAnswer, IsPassing, shape_of}
-use Rattle.net_certificate.specs.declared.answer.MapAnswer.TheVariants.{Different, Found}
+use Rattle.net_certificate.specs.declared.maps.MapAnswer.TheVariants.{Different, Found}
 use Rattle.net_certificate.specs.NetItems.{AreItemsOf, AreMapsOf, HasItsBits, images_in, item_by}
 use Rattle.key_theory.proofs.CallerLemmas.{has_edge}
 use Rattle.map_answers.specs.DueToVerify.{IsBadMap, IsDueToVerify, IsTold as IsToldOf, bad_line_text}

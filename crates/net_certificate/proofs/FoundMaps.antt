@@ -23,9 +23,9 @@ use Rattle.standard_map.{specs.LeastPairs.IsPairOf, proofs.CallerLemmas.arc_part
 use Rattle.sublattice.{specs.Sublattices.base_of, proofs.CallerLemmas.any_last}
 use Rattle.quotient_graph.specs.PlacedNets.{PlacedNet}
 use Rattle.net_certificate.specs.Answers.{IsMapAnswer, PassesIfFound, shape_of, IsPassing}
-use Rattle.net_certificate.specs.declared.answer.MapAnswer.TheVariants.{Found, LongMap, WideMap}
+use Rattle.net_certificate.specs.declared.maps.MapAnswer.TheVariants.{Found, LongMap, WideMap}
 use Rattle.net_certificate.proofs.BoxLists.{box_length, box_inside, vertex_stands, at_map, read_at}
-use Rattle.net_certificate.specs.{Items.With, Items.IsWritable, Written.IsSideOf, Written.IsWritten, declared.answer.MapAnswer.MapAnswer}
+use Rattle.net_certificate.specs.{Items.With, Items.IsWritable, Written.IsSideOf, Written.IsWritten, declared.maps.MapAnswer.MapAnswer}
 use Rattle.net_certificate.specs.{Laws.FoundMapsPass, Tables.AreImages}
 
 -- A map that is found, with the room that there was for it.

@@ -7,9 +7,9 @@ use Rattle.least_key.specs.KeyedNets.{KeyedNet}
 use Rattle.standard_map.specs.MapNumbers.{HaveOtherKeys, StandardTable}
 use Rattle.net_certificate.specs.{Answers.shape_of, Answers.TellsGraphs, Items.ItemView, Items.Without, Laws.AnswersTellGraphs}
 use Rattle.net_certificate.specs.NetItems.{AreItemsOf, AreToldApart, images_in, item_by}
-use Rattle.net_certificate.specs.declared.answer.MapAnswer.{MapAnswer}
-use Rattle.net_certificate.specs.declared.answer.MapAnswer.TheVariants.{Different, Found, LongMap, WideMap}
-use Rattle.net_certificate.specs.declared.item.NoMap.TheVariants as why
+use Rattle.net_certificate.specs.declared.maps.MapAnswer.{MapAnswer}
+use Rattle.net_certificate.specs.declared.maps.MapAnswer.TheVariants.{Different, Found, LongMap, WideMap}
+use Rattle.net_certificate.specs.declared.items.NoMap.TheVariants as why
 
 -- keys that differ refute
 refuted : (G H : Graph) (g : Shape G) (h : Shape H) → IsGraph G → IsGraph H → HaveOtherKeys G H g h → ¬ BareIso G H

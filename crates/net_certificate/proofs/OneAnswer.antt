@@ -17,9 +17,9 @@ use Rattle.key_theory.specs.Key.{Shape}
 use Rattle.least_key.specs.KeyedNets.{KeyedNet}
 use Rattle.standard_map.specs.MapNumbers.{StandardTable, box_vertices, entries_of, images_of, base_rows, IsLong, IsFound}
 use Rattle.standard_map.proofs.OneMap.{one_count, one_period, one_standard_map, causes_exclude, rows_same}
-use Rattle.net_certificate.specs.declared.answer.MapAnswer.TheVariants.{Different, Found, LongMap, WideMap}
+use Rattle.net_certificate.specs.declared.maps.MapAnswer.TheVariants.{Different, Found, LongMap, WideMap}
 use Rattle.net_certificate.specs.Answers.{shape_of, IsAnswerBy, IsMapAnswer}
-use Rattle.net_certificate.{specs.Laws.OneMapAnswer, specs.declared.answer.MapAnswer.MapAnswer, proofs.BoxLists.box_inside, proofs.Shapes.answer_alike}
+use Rattle.net_certificate.{specs.Laws.OneMapAnswer, specs.declared.maps.MapAnswer.MapAnswer, proofs.BoxLists.box_inside, proofs.Shapes.answer_alike}
 
 -- the number and the cell of a vertex determine it
 vertex_told : (u v : ℕ) (r s : Vector) → (pos u ∷ parts 3 r) ≡ (pos v ∷ parts 3 s) → (u ≡ v) × (r ≡ s)

@@ -21,7 +21,7 @@ use Rattle.net_certificate.specs.Stages.{Stage, MayFollow, MayEnd, stage_with, W
 use Rattle.net_certificate.specs.Items.{ItemView, Without, With, Maps, AreFormed, IsFormedItem, IsFormedMap, item_view, item_views}
 use Rattle.net_certificate.proofs.Walks.{image_there, walk_formed, item_rows_more, walk_rows}
 use Rattle.net_certificate.specs.Texts.{graph_rows, image_rows, table_rows, map_rows, item_rows, items_rows}
-use Rattle.net_certificate.specs.{declared.item.Item.Item, Pairs.NoPair, declared.pair.Heading.TheVariants.Reason, declared.pair.Heading.TheVariants.Map}
+use Rattle.net_certificate.specs.{declared.items.Item.Item, Pairs.NoPair, declared.reading.Heading.TheVariants.Reason, declared.reading.Heading.TheVariants.Map}
 use Rattle.std.{proofs.Common.None, proofs.Common.Option, proofs.Common.Some, specs.Prelude.MatchOption}
 use Rattle.quotient_graph.specs.{AnyGraphs.graph_view, declared.any_graph.AnyGraph.AnyGraph}
 use Rattle.net_certificate.specs.Reading.{HasNoGraph, IsBegun}

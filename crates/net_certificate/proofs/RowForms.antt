@@ -12,10 +12,10 @@ use Rattle.map_check.specs.Conditions.{most_part, most_images, IsImage, most_per
 use Rattle.map_check.specs.Layouts.{cell_at, vertex_at}
 use Rattle.net_certificate.specs.Rows.{vertex_numbers, image_numbers, title_row, pair_text, reason_text, reason_row, map_word, map_row, period_row}
 use Rattle.net_certificate.specs.Rows.{image_row, base_row, end_row, row_line}
-use Rattle.net_certificate.specs.declared.item.NoMap.TheVariants.{Different, Long, Wide}
+use Rattle.net_certificate.specs.declared.items.NoMap.TheVariants.{Different, Long, Wide}
 use Rattle.net_certificate.specs.Pairs.{heading_text, heading_row, IsToldHeading}
-use Rattle.net_certificate.specs.{declared.item.NoMap.NoMap, Items.IsTold, declared.pair.Heading.Heading, declared.pair.Heading.TheVariants.Reason}
-use Rattle.net_certificate.specs.{declared.pair.Heading.TheVariants.Map}
+use Rattle.net_certificate.specs.{declared.items.NoMap.NoMap, Items.IsTold, declared.reading.Heading.Heading, declared.reading.Heading.TheVariants.Reason}
+use Rattle.net_certificate.specs.{declared.reading.Heading.TheVariants.Map}
 
 part_wide : (x : ℤ) → unsigned_abs x ≤ most_part → IsWide x
 part_wide x k = search arith

@@ -11,8 +11,8 @@ use Rattle.key_theory.specs.Primitive.{IsLeastMember}
 use Rattle.least_key.proofs.OneAnswer.{one_numbering, same_arcs}
 use Rattle.standard_map.specs.StandardMaps.{HaveSameCoordinates, IsFramedByKey, IsStandardMap, framed_net, vector_between}
 use Rattle.standard_map.specs.{LeastPairs.IsPairOf, MapNumbers.StandardTable}
-use Rattle.net_certificate.specs.declared.answer.MapAnswer.TheVariants.{Different, Found, LongMap, WideMap}
-use Rattle.net_certificate.specs.{Answers.IsAnswerBy, declared.answer.MapAnswer.MapAnswer}
+use Rattle.net_certificate.specs.declared.maps.MapAnswer.TheVariants.{Different, Found, LongMap, WideMap}
+use Rattle.net_certificate.specs.{Answers.IsAnswerBy, declared.maps.MapAnswer.MapAnswer}
 
 -- the class graph with these arcs
 abbrev classes_with : ℕ → ℕ → List ClassArc → ClassGraph

@@ -24,7 +24,7 @@ use Rattle.net_certificate.proofs.Walks.{whole_graph, rows_of_whole, walk_rows, 
 use Rattle.net_certificate.proofs.Places.{maps_walk, lines_of_sum, graph_same}
 use Rattle.net_certificate.specs.Checks.{ArePassed, AreAll, IsChecked}
 use Rattle.net_certificate.specs.{TextLaws.TextsTellMaps, TextLaws.BadLineIsFirst, declared.checking.CheckedMaps.CheckedMaps, NetItems.AreItemsOf}
-use Rattle.net_certificate.specs.{NetItems.IsMapsTextOf, declared.item.NoMap.TheVariants.Long, declared.item.NoMap.TheVariants.Wide, NetSteps.AreItemsLast}
+use Rattle.net_certificate.specs.{NetItems.IsMapsTextOf, declared.items.NoMap.TheVariants.Long, declared.items.NoMap.TheVariants.Wide, NetSteps.AreItemsLast}
 use Rattle.net_certificate.specs.{NetSteps.IsItemLast}
 
 -- what the rows that lead to a stage say, where the text may end there

@@ -13,8 +13,8 @@ use Rattle.map_check.specs.declared.verdict.Verdict.TheVariants.{Yes}
 use Rattle.quotient_graph.specs.NetClasses.{class_at}
 use Rattle.least_key.specs.KeyedNets.{KeyedNet, IsKeyed}
 use Rattle.standard_map.specs.MapNumbers.{HaveOtherKeys, IsLong, IsWide, IsFound}
-use Rattle.net_certificate.specs.declared.answer.MapAnswer.{MapAnswer}
-use Rattle.net_certificate.specs.declared.answer.MapAnswer.TheVariants.{Different, Found, LongMap, WideMap}
+use Rattle.net_certificate.specs.declared.maps.MapAnswer.{MapAnswer}
+use Rattle.net_certificate.specs.declared.maps.MapAnswer.TheVariants.{Different, Found, LongMap, WideMap}
 
 -- the placement and the classes of a net with its key
 abbrev pub shape_of : (n : KeyedNet) → IsKeyed n → Shape n.placed.graph

@@ -7,11 +7,11 @@ use Rattle.graph_rows.specs.declared.size.GraphSize.{GraphSize}
 use Rattle.graph_rows.specs.Reading.{IsFormedGraph}
 use Rattle.map_check.specs.Conditions.{SuitsGraphs, most_period, most_images}
 use Rattle.map_check.specs.declared.map.PeriodicMap.{PeriodicMap}
-use Rattle.net_certificate.specs.declared.item.MapsText.{MapsText}
-use Rattle.net_certificate.specs.declared.item.NoMap.{NoMap}
-use Rattle.net_certificate.specs.declared.item.NoMap.TheVariants.{Different, Long, Wide}
-use Rattle.net_certificate.specs.declared.item.Item.{Item}
-use Rattle.net_certificate.specs.declared.item.Item.TheVariants.{Without as WithoutMap, With as WithMap}
+use Rattle.net_certificate.specs.declared.items.MapsText.{MapsText}
+use Rattle.net_certificate.specs.declared.items.NoMap.{NoMap}
+use Rattle.net_certificate.specs.declared.items.NoMap.TheVariants.{Different, Long, Wide}
+use Rattle.net_certificate.specs.declared.items.Item.{Item}
+use Rattle.net_certificate.specs.declared.items.Item.TheVariants.{Without as WithoutMap, With as WithMap}
 
 -- an item: why there is no map, or the second graph and a map to it
 pub data ItemView : Type 0 where

@@ -8,7 +8,7 @@ use Rattle.map_check.specs.Conditions.{most_images}
 use Rattle.least_key.specs.KeyedNets.{KeyedNet}
 use Rattle.standard_map.specs.MapNumbers.{IsFound}
 use Rattle.net_certificate.specs.Answers.{IsMapAnswer, IsPassing, TellsGraphs}
-use Rattle.net_certificate.specs.declared.answer.MapAnswer.{MapAnswer}
+use Rattle.net_certificate.specs.declared.maps.MapAnswer.{MapAnswer}
 
 -- two nets have one answer by a room at most
 abbrev pub OneMapAnswer : Type 0

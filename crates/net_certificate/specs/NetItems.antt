@@ -6,10 +6,10 @@ use Rattle.least_key.specs.KeyedNets.{KeyedNet}
 use Rattle.map_check.specs.Conditions.{most_images}
 use Rattle.net_certificate.specs.Items.{ItemView, Without, With, Maps, IsTold}
 use Rattle.net_certificate.specs.Texts.{maps_text}
-use Rattle.net_certificate.specs.declared.item.NoMap.TheVariants as why
+use Rattle.net_certificate.specs.declared.items.NoMap.TheVariants as why
 use Rattle.net_certificate.specs.Answers.{IsMapAnswer}
-use Rattle.net_certificate.specs.declared.answer.MapAnswer.{MapAnswer}
-use Rattle.net_certificate.specs.declared.answer.MapAnswer.TheVariants.{Different, Found, LongMap, WideMap}
+use Rattle.net_certificate.specs.declared.maps.MapAnswer.{MapAnswer}
+use Rattle.net_certificate.specs.declared.maps.MapAnswer.TheVariants.{Different, Found, LongMap, WideMap}
 
 -- the item of a net with the graph H, by the answer to the first net and it
 abbrev pub item_by : Graph → MapAnswer → ItemView

@@ -1,7 +1,7 @@
 -- The first line of an item.
 use Rattle.std.specs.Prelude.{◌≡◌, ℕ, List, ◌∷◌, ◌++◌}
-use Rattle.net_certificate.specs.declared.pair.Heading.{Heading}
-use Rattle.net_certificate.specs.declared.pair.Heading.TheVariants.{Reason, Map}
+use Rattle.net_certificate.specs.declared.reading.Heading.{Heading}
+use Rattle.net_certificate.specs.declared.reading.Heading.TheVariants.{Reason, Map}
 use Rattle.net_certificate.specs.Items.{IsTold}
 use Rattle.net_certificate.specs.Rows.{Row, OfReason, OfMap, reason_text, map_word, row_line}
 

@@ -6,8 +6,8 @@ use Rattle.periodic_net.specs.Graph.{Arc, Vertex}
 use Rattle.line_text.specs.Numbers.{row_text}
 use Rattle.graph_rows.specs.declared.size.GraphSize.{GraphSize}
 use Rattle.graph_rows.specs.Rows.{size_row, edge_row}
-use Rattle.net_certificate.specs.declared.item.NoMap.{NoMap}
-use Rattle.net_certificate.specs.declared.item.NoMap.TheVariants.{Different, Long, Wide}
+use Rattle.net_certificate.specs.declared.items.NoMap.{NoMap}
+use Rattle.net_certificate.specs.declared.items.NoMap.TheVariants.{Different, Long, Wide}
 
 -- the first line
 unfoldable pub title_row : List ℕ

@@ -10,8 +10,8 @@ use Rattle.standard_map.specs.LeastPairs.{IsLeastPair}
 use Rattle.standard_map.specs.MapNumbers.{map_numbers, most_part, IsFirstPast}
 use Rattle.standard_map.specs.Sides.{NetSide}
 use Rattle.net_certificate.specs.Answers.{IsMapAnswer}
-use Rattle.net_certificate.specs.declared.answer.MapAnswer.{MapAnswer}
-use Rattle.net_certificate.specs.declared.answer.MapAnswer.TheVariants.{Different, Found, LongMap, WideMap}
+use Rattle.net_certificate.specs.declared.maps.MapAnswer.{MapAnswer}
+use Rattle.net_certificate.specs.declared.maps.MapAnswer.TheVariants.{Different, Found, LongMap, WideMap}
 
 -- S is the net with the representative of the start and the frame of its key
 pub record IsSideOf (n : KeyedNet) (S : NetSide) : Type 0 where

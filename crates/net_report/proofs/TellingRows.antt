@@ -18,8 +18,8 @@ use Rattle.net_report.specs.Identified.{sequences_text, archive_name_text, archi
 use Rattle.net_report.specs.Placements.{position_text, positions_text, placement_text, placement_word, denominator_text}
 use Rattle.net_report.specs.Primitives.{sizes_text, basis_text, bases_text, edge_text, edges_text, primitive_text}
 use Rattle.net_report.specs.Numbers.{vertex_text}
-use Rattle.net_report.specs.Telling.{IsShort}
-use Rattle.net_report.specs.TellingRows.{first_byte, AreEach, PrintedEdge, printed_edge, IsLegibleEdge, IsLegibleVector, IsLegiblePlacement}
+use Rattle.net_report.specs.Telling.{AreEach, IsShort}
+use Rattle.net_report.specs.TellingRows.{first_byte, PrintedEdge, printed_edge, IsLegibleEdge, IsLegibleVector, IsLegiblePlacement}
 use Rattle.net_report.specs.TellingRows.{IdentifiedLinesTell}
 use Rattle.net_report.specs.TellingRows.{SequenceLinesTell, PlacementLinesTell, NameLinesTell, PrimitiveLinesTell}
 use Rattle.net_report.proofs.TellingTexts.{IsLine, line, three_none, four_none, from_right, five_from_right}
@@ -81,7 +81,7 @@ map_same [] = refl
 map_same (x ∷ xs) = ap (λ l. x ∷ l) (map_same xs)
 
 count_line : (n : ℕ) → IsShort n → IsLine (field_text (codes "names ") n ++ codes "\n")
-count_line n short = line (field_text (codes "names ") n) (field_none (codes "names ") n (search arith) short)
+count_line n short = line (field_text (codes "names ") n) (field_none (codes "names ") n (search arith))
 
 pub name_lines_tell : NameLinesTell
 name_lines_tell xs ys s t h k m n e =
@@ -107,7 +107,7 @@ module _ (names : List (List ℕ)) (p q : PlacedNet) (same : p.graph.dimension �
   row names n h u =
       let xs = parts n.graph.dimension (base n.placement u) in
       line (codes "at " ++ vertex_text names u ++ codes " " ++ list_text xs)
-      (four_none (codes "at ") (vertex_text names u) (codes " ") (list_text xs) (search arith) (h.each u).0 (refl, tt) (list_none xs (h.each u).1))
+      (four_none (codes "at ") (vertex_text names u) (codes " ") (list_text xs) (search arith) (h.each u).0 (refl, tt) (list_none xs))
 
   same_position : (u : ℕ) → position_text names p u ≡ position_text names q u → here u ≡ there u
   same_position u e =
@@ -163,7 +163,7 @@ sizes_begin (n ∷ ns) = search arith
 
 sizes_none : (ns : List ℕ) → AreEach IsShort ns → HasNo 10 (sizes_after ns)
 sizes_none [] h = tt
-sizes_none (n ∷ ns) h = sum_has_no 10 (field_text (codes " ") n) (sizes_after ns) (field_none (codes " ") n (search arith) h.0) (sizes_none ns h.1)
+sizes_none (n ∷ ns) h = sum_has_no 10 (field_text (codes " ") n) (sizes_after ns) (field_none (codes " ") n (search arith)) (sizes_none ns h.1)
 
 same_list_of_sizes : (ms ns : List ℕ) → AreEach IsShort ms → AreEach IsShort ns → sizes_after ms ≡ sizes_after ns → ms ≡ ns
 same_list_of_sizes [] [] h k e = refl
@@ -176,7 +176,7 @@ same_list_of_sizes (m ∷ ms) (n ∷ ns) h k e =
 shells_line : (class : ℕ) (sizes : List ℕ) → IsShort class → AreEach IsShort sizes → IsLine (shells_text class sizes)
 shells_line class sizes short h =
     line (field_text (codes "shells ") class ++ sizes_after sizes)
-    (sum_has_no 10 (field_text (codes "shells ") class) (sizes_after sizes) (field_none (codes "shells ") class (search arith) short) (sizes_none sizes h))
+    (sum_has_no 10 (field_text (codes "shells ") class) (sizes_after sizes) (field_none (codes "shells ") class (search arith)) (sizes_none sizes h))
 
 pub sequence_lines_tell : SequenceLinesTell
 sequence_lines_tell class [] [] s t h k c ns nt e = (refl, e)
@@ -196,8 +196,8 @@ sequence_lines_tell class (x ∷ xs) (y ∷ ys) s t h k c ns nt e =
 
 module _ (d : ℕ) where
   vector_line : (v : Vector) → IsLegibleVector d v → IsLine (basis_text d v)
-  vector_line v w = line (codes "basis " ++ list_text (parts d v)) (sum_has_no 10 (codes "basis ") (list_text (parts d v)) (search arith) (list_none
-      (parts d v) w))
+  vector_line v w = line (codes "basis " ++ list_text (parts d v)) (sum_has_no 10 (codes "basis ") (list_text (parts d v)) (search arith)
+      (list_none (parts d v)))
 
   vector_tells : (v w : Vector) → IsLegibleVector d v → IsLegibleVector d w → basis_text d v ≡ basis_text d w → parts d v ≡ parts d w
   vector_tells v w h k e = same_list_text (parts d v) (parts d w) h k (append_cancel_left (codes "basis ") (list_text (parts d v)) (list_text (parts d w))
@@ -211,8 +211,8 @@ module _ (d : ℕ) where
   edge_line e h =
       let a = field_text (codes "edge ") e.from in let b = field_text (codes " ") e.to in
       line (a ++ b ++ codes " " ++ list_text (parts d e.shift))
-      (four_none a b (codes " ") (list_text (parts d e.shift)) (field_none (codes "edge ") e.from (search arith) h.0)
-      (field_none (codes " ") e.to (search arith) h.1) (refl, tt) (list_none (parts d e.shift) h.2))
+      (four_none a b (codes " ") (list_text (parts d e.shift)) (field_none (codes "edge ") e.from (search arith))
+      (field_none (codes " ") e.to (search arith)) (refl, tt) (list_none (parts d e.shift)))
 
   edge_parts : (e : Arc) → edge_text d e ≡ field_text (codes "edge ") e.from ++ (field_text (codes " ") e.to ++ (codes " " ++ (list_text
       (parts d e.shift) ++ codes "\n")))
@@ -234,8 +234,8 @@ module _ (d : ℕ) where
   sizes_line : (n m : ℕ) → IsShort n → IsShort m → IsLine (sizes_text n m)
   sizes_line n m h k =
       line (field_text (codes "primitive vertices=") n ++ field_text (codes " edges=") m)
-      (sum_has_no 10 (field_text (codes "primitive vertices=") n) (field_text (codes " edges=") m) (field_none (codes "primitive vertices=") n (search arith) h)
-      (field_none (codes " edges=") m (search arith) k))
+      (sum_has_no 10 (field_text (codes "primitive vertices=") n) (field_text (codes " edges=") m) (field_none (codes "primitive vertices=") n (search arith))
+      (field_none (codes " edges=") m (search arith)))
 
   same_sizes : (n m n' m' : ℕ) → IsShort n → IsShort m → IsShort n' → IsShort m' → sizes_text n m ≡ sizes_text n' m' → (n ≡ n') × (m ≡ m')
   same_sizes n m n' m' h k h' k' e =
@@ -294,7 +294,7 @@ identified_lines_tell d vertices m n shells shells' names names' s t count h k e
     ∙ five_from_right p' c' x' l' (f' ++ t)) in
     let two = primitive_lines_tell d m.cell n.cell (x ++ (l ++ (f ++ s))) (x' ++ (l' ++ (f' ++ t))) h.cell k.cell (λ q. omega (arith, q))
     (λ q. omega (arith, q)) one.2 in
-    let three = same_lines x x' (l ++ (f ++ s)) (l' ++ (f' ++ t)) (key_line m.key h.key) (key_line n.key k.key) two.1 in
+    let three = same_lines x x' (l ++ (f ++ s)) (l' ++ (f' ++ t)) (key_line m.key) (key_line n.key) two.1 in
     let four = sequence_lines_tell 1 shells shells' (f ++ s) (f' ++ t) h.are_short k.are_short h.classes (λ q. omega (arith, q)) (λ q. omega
     (arith, q)) three.1 in
     let five = name_lines_tell names names' s t h.are_names k.are_names h.count k.count four.1 in (

@@ -1,17 +1,16 @@
 -- What the text of an outcome says of it, if the outcome is legible.
 use Rattle.std.specs.Prelude.{◌≡◌, ℕ, ◌<◌, ◌^◌, ℤ, List, [], ◌∷◌, All, Option, None, Some, option_copied}
-use Rattle.cgd_read.specs.Faults.{number_of_kind}
 use Rattle.line_text.specs.Lines.{HasNo}
 use Rattle.line_text.specs.Numbers.{IsWide}
 use Rattle.least_key.specs.AnyNets.{net_view}
 use Rattle.net_report.specs.Headers.{fault_text}
 use Rattle.net_report.specs.Keys.{key_text}
-use Rattle.net_report.specs.Refusals.{refused_text, refusal_details}
+use Rattle.net_report.specs.Refusals.{refused_text}
 use Rattle.net_report.specs.Reports.{report_text}
 use Rattle.net_report.specs.declared.outcome.Size.{Size}
 use Rattle.net_report.specs.declared.outcome.Outcome.{Outcome}
 use Rattle.net_report.specs.declared.outcome.OutcomeBody.{OutcomeBody}
-use Rattle.net_report.specs.declared.outcome.OutcomeBody.TheVariants.{Unsupported, Malformed, Refused, Keyed}
+use Rattle.net_report.specs.declared.outcome.OutcomeBody.TheVariants.{Unsupported, Malformed, Faulty, Refused, Checked, Located, Keyed, Identified, Lines}
 
 -- a number that is printed whole
 abbrev pub IsShort : ℕ → Type 0
@@ -29,19 +28,42 @@ abbrev pub IsOnLine : Option (List ℕ) → Type 0
 IsOnLine None = Unit {0}
 IsOnLine (Some name) = HasNo 10 name
 
--- what `key` reports of a block, on lines: numbers are printed whole, and no name and no token has a line feed
-abbrev pub IsLegibleBody : OutcomeBody → Type 0
-IsLegibleBody (Unsupported token) = HasNo 10 token.now
-IsLegibleBody (Malformed fault) = IsShort fault.line × IsShort (number_of_kind fault.kind)
-IsLegibleBody (Refused size names refusal) = IsShortSize size × HasNo 10 (refusal_details names refusal)
-IsLegibleBody (Keyed size net) = IsShortSize size × All IsWide (net_view net).key
-IsLegibleBody body = ⊥
+-- each of these is so
+abbrev pub AreEach : {X : Type 0} → (X → Type 0) → List X → Type 0
+AreEach Good [] = Unit {0}
+AreEach Good (x ∷ xs) = Good x × AreEach Good xs
 
-pub record IsLegible (o : Outcome) : Type 0 where
+-- the sizes, the numbers of lines and the key that are reported of a block are printed whole
+abbrev pub IsBodyPrintedWhole : OutcomeBody → Type 0
+IsBodyPrintedWhole (Unsupported token) = Unit {0}
+IsBodyPrintedWhole (Malformed fault) = IsShort fault.line
+IsBodyPrintedWhole (Faulty line number kind) = IsShort line × IsShort number
+IsBodyPrintedWhole (Refused size names refusal) = IsShortSize size
+IsBodyPrintedWhole (Checked size) = IsShortSize size
+IsBodyPrintedWhole (Located size names placed) = IsShortSize size
+IsBodyPrintedWhole (Keyed size net) = IsShortSize size × All IsWide (net_view net).key
+IsBodyPrintedWhole (Identified size vertices net shells names) = IsShortSize size × All IsWide (net_view net).key
+IsBodyPrintedWhole (Lines size lines) = IsShortSize size
+
+-- and so are the number of the block and that of its line
+pub record IsPrintedWhole (o : Outcome) : Type 0 where
   pub number : IsShort o.number
   pub line : IsShort o.line
+  pub body : IsBodyPrintedWhole o.body
+
+-- of what `key` reports of a block no token and no name of a vertex has a line feed
+abbrev pub IsBodyOnLines : OutcomeBody → Type 0
+IsBodyOnLines (Unsupported token) = HasNo 10 token.now
+IsBodyOnLines (Malformed fault) = Unit {0}
+IsBodyOnLines (Refused size names refusal) = AreEach (HasNo 10) names
+IsBodyOnLines (Keyed size net) = Unit {0}
+IsBodyOnLines body = ⊥
+
+-- what `key` reports of a block, on lines: numbers are printed whole, and no name and no token has a line feed
+pub record IsLegible (o : Outcome) : Type 0 where
+  pub whole : IsPrintedWhole o
   pub name : IsOnLine (option_copied o.name)
-  pub body : IsLegibleBody o.body
+  pub body : IsBodyOnLines o.body
 
 -- two bodies report the same: the token, the line of the fault, the sizes and the line of the refusal, or the sizes and the key
 abbrev pub ReportAlike : OutcomeBody → OutcomeBody → Type 0
@@ -64,14 +86,10 @@ AreAllReportedAlike [] [] = Unit {0}
 AreAllReportedAlike (o ∷ os) (p ∷ ps) = AreReportedAlike o p × AreAllReportedAlike os ps
 AreAllReportedAlike os ps = ⊥
 
-abbrev pub AreAllLegible : List Outcome → Type 0
-AreAllLegible [] = Unit {0}
-AreAllLegible (o ∷ os) = IsLegible o × AreAllLegible os
-
 -- two lines of keys are equal only if the keys are
 abbrev pub KeyLinesTell : Type 0
 KeyLinesTell = (xs ys : List ℤ) → All IsWide xs → All IsWide ys → key_text xs ≡ key_text ys → xs ≡ ys
 
 -- two reports of `key` with one text have as many outcomes, in pairs that report the same
 abbrev pub ReportsTell : Type 0
-ReportsTell = (os ps : List Outcome) → AreAllLegible os → AreAllLegible ps → report_text os ≡ report_text ps → AreAllReportedAlike os ps
+ReportsTell = (os ps : List Outcome) → AreEach IsLegible os → AreEach IsLegible ps → report_text os ≡ report_text ps → AreAllReportedAlike os ps

@@ -1,5 +1,5 @@
 -- What the lines of a placement, of a primitive graph, of coordination sequences and of names say.
-use Rattle.std.specs.Prelude.{◌≡◌, ◌≢◌, ℕ, ◌+◌, ◌≤◌, ℤ, pos, List, [], ◌∷◌, ◌++◌, map, length, All, slice_index_or}
+use Rattle.std.specs.Prelude.{◌≡◌, ◌≢◌, ℕ, ◌+◌, ◌≤◌, ℤ, pos, List, ◌++◌, map, length, All, slice_index_or}
 use Rattle.integers.specs.Vectors.{Vector, parts}
 use Rattle.periodic_net.specs.{Graph.Arc, Placement.base}
 use Rattle.line_text.specs.{Lines.HasNo, Numbers.IsWide}
@@ -8,16 +8,11 @@ use Rattle.primitive_cell.specs.DividedNets.{DividedNet}
 use Rattle.quotient_graph.specs.PlacedNets.{PlacedNet}
 use Rattle.net_report.specs.{Identified.found_names_text, Identified.identified_text}
 use Rattle.net_report.specs.{Identified.sequences_text, Placements.placement_text, Primitives.primitive_text}
-use Rattle.net_report.specs.{Telling.IsShort, Numbers.vertex_text}
+use Rattle.net_report.specs.{Telling.AreEach, Telling.IsShort, Numbers.vertex_text}
 
 -- the first byte of a text, if it has one
 abbrev pub first_byte : List ℕ → ℕ
 first_byte bs = slice_index_or bs 0 0
-
--- each of these is so
-abbrev pub AreEach : {X : Type 0} → (X → Type 0) → List X → Type 0
-AreEach Good [] = Unit {0}
-AreEach Good (x ∷ xs) = Good x × AreEach Good xs
 
 -- an edge as it is printed
 pub record PrintedEdge : Type 0 where

@@ -1,14 +1,18 @@
 // What becomes of a block.
-ghost use Rattle.std.specs.Prelude.{◌≡◌, ◌≢◌, IfOk};
+ghost use Rattle.std.specs.Prelude.{◌≡◌, ◌≢◌, All, IfOk};
 ghost use Rattle.std.specs.List.{list_all};
 ghost use Rattle.periodic_net.specs.Graph.{IsGraph};
 ghost use Rattle.periodic_net.specs.Limits.{IsSmall};
 ghost use Rattle.quotient_graph.specs.AnyGraphs.{graph_view};
+ghost use Rattle.least_key.specs.AnyNets.{net_view};
+ghost use Rattle.line_text.specs.Numbers.{IsWide};
 ghost use Rattle.quotient_graph.specs.Order.{AreRising};
 ghost use Rattle.net_report.specs.Accepting.{is_accepted, is_accepted_body};
 ghost use Rattle.net_report.specs.Headers.{size_in};
+ghost use Rattle.net_report.specs.Telling.{IsBodyPrintedWhole, IsPrintedWhole, IsShort, IsShortSize};
 
 use crate::NoMemory;
+use crate::keys::recall_key;
 use cgd_read::{BlockFault, Names};
 use coordination::Sequences;
 use least_key::{AnyPlaced, Net, Refusal};
@@ -51,6 +55,18 @@ impl Size {
             AnyGraph::Space(graph) => Size::of_graph(graph, repeats),
         }
     }
+
+    // Recalls that they are printed whole, since none has more than 32 bits.
+    fn recall(self)
+        ensures { IsShortSize self }
+    {
+        let Size {
+            dim: _dim,
+            vertices: _vertices,
+            edges: _edges,
+            repeats: _repeats,
+        } = self;
+    }
 }
 
 /// What is reported of a block, after its header. The names are those of the graph's vertices.
@@ -81,6 +97,22 @@ pub enum OutcomeBody<'a> {
     Lines(Size, Items<u8>),
 }
 
+// A number of 32 bits is printed whole.
+fn recall_short(number: u32)
+    ensures { IsShort number }
+{
+    let _number = number;
+}
+
+// The sizes of a net, and its key, are printed whole.
+fn recall_keyed(size: Size, net: &Net)
+    ensures size { IsShortSize size }
+    ensures wide { All IsWide (net_view net.now).key }
+{
+    size.recall();
+    recall_key(net.key())
+}
+
 impl<'a> OutcomeBody<'a> {
     /// The refusal with these names, if it is one.
     pub fn refused(size: Size, names: Names<'a>, refusal: Refusal) -> Result<Self, NoMemory>
@@ -90,6 +122,27 @@ impl<'a> OutcomeBody<'a> {
         match refusal {
             Refusal::NoMemory => Err(NoMemory),
             refusal => Ok(OutcomeBody::Refused(size, names, refusal)),
+        }
+    }
+
+    // Recalls that its numbers are printed whole, since each has as many bits as its type says.
+    fn recall(&self)
+        ensures { IsBodyPrintedWhole self.now }
+    {
+        match self {
+            OutcomeBody::Unsupported(_) => (),
+            OutcomeBody::Malformed(fault) => recall_short(fault.line),
+            OutcomeBody::Faulty { line, number, .. } => {
+                recall_short(*line);
+                recall_short(*number as u32)
+            }
+            OutcomeBody::Refused(size, _, _)
+            | OutcomeBody::Checked(size)
+            | OutcomeBody::Located(size, _, _)
+            | OutcomeBody::Lines(size, _) => size.recall(),
+            OutcomeBody::Keyed(size, net) | OutcomeBody::Identified(size, _, net, _, _) => {
+                recall_keyed(*size, net)
+            }
         }
     }
 
@@ -127,6 +180,17 @@ pub struct Outcome<'a> {
     pub line: u32,
     pub name: Option<&'a [u8]>,
     pub body: OutcomeBody<'a>,
+}
+
+impl<'a> Outcome<'a> {
+    /// Recalls that its numbers are printed whole, since each has as many bits as its type says.
+    pub fn recall(&self)
+        ensures { IsPrintedWhole self.now }
+    {
+        recall_short(self.number);
+        recall_short(self.line);
+        self.body.recall()
+    }
 }
 
 /// What is told of a block, and whether the block was accepted.

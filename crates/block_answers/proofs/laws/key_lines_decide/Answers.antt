@@ -1,5 +1,5 @@
-use Rattle.block_answers.proofs.TextsTell as texts
+use Rattle.block_answers.proofs.KeysDecideNets as nets
 use Rattle.block_answers.proofs.laws.key_lines_decide.Goals as goal
 
 pub returns : goal.returns
-returns c = record { theorem = texts.key_lines_decide }
+returns c = record { theorem = nets.key_lines_decide }

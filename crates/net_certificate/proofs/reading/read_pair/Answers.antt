@@ -7,7 +7,7 @@ use Rattle.graph_rows.specs.{declared.size.GraphSize.GraphSize, Reading.HasBadGr
 use Rattle.line_text.proofs.CallerLemmas.{bad_line_from, handed_on}
 use Rattle.net_certificate.specs.Items.{ItemView, With, item_view}
 use Rattle.net_certificate.specs.Stages.{Opened, Listed, Drawn, Mapped, drawing, drawn_graph, with_item}
-use Rattle.net_certificate.specs.{declared.item.Item.Item, Rows.OfEnd, Rows.row_lines, Reading.IsIn, Reading.HasBadLine}
+use Rattle.net_certificate.specs.{declared.items.Item.Item, Rows.OfEnd, Rows.row_lines, Reading.IsIn, Reading.HasBadLine}
 use Rattle.net_certificate.proofs.Places.{no_end, row_in, bad_in, second_in, second_bad}
 use Rattle.net_certificate.proofs.reading.read_pair.Goals.{After-size_of-second}
 use Rattle.net_certificate.proofs.reading.read_pair.Goals as goal

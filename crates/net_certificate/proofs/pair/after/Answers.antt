@@ -1,5 +1,0 @@
-use Rattle.std.proofs.lemmas.{Slice.Eq.strip_prefix_is, Bool.Decides.Decides-eqb}
-use Rattle.net_certificate.proofs.pair.after.Goals as goal
-
-pub returns : goal.returns
-returns c = strip_prefix_is Decides-eqb c.args.text.now c.args.word.now c.strip_prefix.result c.strip_prefix.ensures.cases
