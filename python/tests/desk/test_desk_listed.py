@@ -20,13 +20,20 @@ class Listed(unittest.TestCase):
         need_program()
         need_modules("numpy", "spglib")
         self.assertEqual(listed(NETS["dia"]), {
-            "symmetry": "Fd-3m, 1 kind of vertices, 1 of edges", "point_symbol": "6^6", "td10": "981.00", "transitivity": "11",
+            "symmetry": "Fd-3m, 1 kind of vertices, 1 of edges", "group": "", "point_symbol": "6^6", "td10": "981.00",
+            "transitivity": "11",
             "vertex_symbols": [{"symbol": SIX_RINGS, "vertices": 2, "connectivity": 4}]})
         told = listed(NETS["rtl"])
         self.assertEqual((told["point_symbol"], told["transitivity"]), ("{4.6^2}2{4^2.6^10.8^3}", "22"))
         self.assertEqual([(kind["vertices"], kind["connectivity"]) for kind in told["vertex_symbols"]], [(4, 3), (2, 6)])
         self.assertEqual([kind["symbol"] for kind in listed(NETS["bcu"])["vertex_symbols"]], [""])
         json.dumps(told)
+
+    def test_the_group_of_a_block(self):
+        need_program()
+        need_modules("numpy", "spglib", "gemmi")
+        net, *_ = read(TOP / "examples/embedded.cgd")
+        self.assertEqual(listed(net)["group"], f"{net.provenance.group.name}, that of the net")
 
     def test_nets_of_which_there_is_none(self):
         woven = Net([(1, 1, (2, 0)), (1, 1, (0, 1))])
