@@ -10,6 +10,7 @@ from testing import IS_LONG, PROGRAM, TOP, FolderTest, long_test, need_modules, 
 
 from crystal_nets import (Archive, By, Net, NotAnArchive, NotANet, ProgramFailed, check, cover, group,  # noqa: E402
                           identify, identify_all, keys, read, same, svg)
+from crystal_nets.different import check_different  # noqa: E402
 from crystal_nets.lattice import adjugate, determinant  # noqa: E402
 from crystal_nets.topology import topology_of  # noqa: E402
 from crystal_nets.wide.archive import WideArchive, write_wide_archive  # noqa: E402
@@ -493,8 +494,10 @@ class Many(unittest.TestCase):
 
     @long_test
     def test_the_pairs_of_those_without_a_key(self):
-        """None of the 28 is said to be the same, and none to be proved different."""
+        """Each of the 28 is different, by shells that the other net has not."""
         nets = dict(zip(WIDE, (disguised(ZEOLITES[name], random.Random(15), 2) for name in WIDE)))
         for one, other in combinations(WIDE, 2):
             found = same(nets[one], nets[other])
-            self.assertEqual((found.same, found.hint), (None, "other by invariants that are not proved"), (one, other))
+            self.assertEqual((found.same, found.hint), (False, ""), (one, other))
+            blocks = (nets[one].block + nets[other].block).decode()
+            self.assertEqual(check_different.check(found.certificate, blocks), [True], (one, other))
