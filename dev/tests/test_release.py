@@ -106,7 +106,7 @@ class Release(FolderTest):
         release = self.top / "release"
         names = {path.name for path in release.iterdir()}
         self.assertEqual(names, {"net_tool", "net_tool.sum", "SHA256SUMS", "RELEASE.md", "crystal-net-tool_1.5_amd64.deb",
-                                 "crystal-net-tool-1.5-x86_64-linux.tar.gz", WHEEL})
+                                 "crystal-net-tool-1.5-x86_64-linux.tar.xz", WHEEL})
         told = (release / "RELEASE.md").read_text()
         for row in ("version | 1.5", f"sum of the sources | {self.sum[:-1]}", "the gate said | 7 passed, 0 failed"):
             self.assertIn(f"| {row} |\n", told)
@@ -231,7 +231,7 @@ class Release(FolderTest):
         self.assertIn("made of these sources", run(self.folder / "prefix/bin/net_tool", "--version").stdout.decode())
 
     def test_the_archive_is_a_prefix(self):
-        archive, = (self.top / "release").glob("*.tar.gz")
+        archive, = (self.top / "release").glob("*.tar.xz")
         run("tar", "-xf", archive, "-C", self.folder, "--strip-components=1")
         self.assertEqual(run(self.folder / "bin/net_tool", "workload", "3").stdout, b"workload 3\n")
         owners = run("tar", "--numeric-owner", "-tvf", archive).stdout.decode().splitlines()
