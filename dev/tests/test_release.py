@@ -123,17 +123,17 @@ class Release(FolderTest):
         content = package.read_bytes()
         package.write_bytes(content + b"\n")
         self.assertIn("SHA256SUMS", self.check(1))
-        run("sh", "-c", f"cd {self.top}/release && sha256sum net_tool *.deb *.gz > SHA256SUMS")
+        run("sh", "-c", f"cd {self.top}/release && sha256sum net_tool *.deb *.xz > SHA256SUMS")
         self.assertIn("not the released one", self.check(1))
         package.write_bytes(content)
-        run("sh", "-c", f"cd {self.top}/release && sha256sum net_tool *.deb *.gz > SHA256SUMS")
+        run("sh", "-c", f"cd {self.top}/release && sha256sum net_tool *.deb *.xz > SHA256SUMS")
         shutil.copy(shutil.which("cat"), self.program)
         self.assertIn("the program that was proved here is not the released one", self.check(1))
 
     def test_a_wheel_that_differs_is_found(self):
         with zipfile.ZipFile(self.top / "release" / WHEEL, "a") as wheel:
             wheel.writestr("crystal_nets/more", "")
-        run("sh", "-c", f"cd {self.top}/release && sha256sum net_tool *.deb *.gz *.whl > SHA256SUMS")
+        run("sh", "-c", f"cd {self.top}/release && sha256sum net_tool *.deb *.xz *.whl > SHA256SUMS")
         self.assertIn("is not the released one", self.check(1))
 
     def test_pip_brings_the_program(self):
